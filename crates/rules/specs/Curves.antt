@@ -1,0 +1,28 @@
+-- Document 01, rules 7 and 8: the curves and the nameplate.
+-- Assumes nothing.
+use mathlib.Core.Bool.{Bool, cond}
+use mathlib.Core.List.{List, [], _∷_}
+use Prim.Native.Nat.{ℕ, _+_, _-_, _*_}
+use lib.Dec.{leb}
+use lib.IntN.{ℤ, pos, natAbs, _+ℤ_, _-ℤ_, _*ℤ_}
+use lib.Signed.{quotZ}
+use Rattle.rules.specs.Sensing.{largest}
+use Rattle.rules.specs.declared.Point.{Point}
+
+-- between two points: "the left power plus (power difference × voltage distance ÷ gap), the quotient cut toward zero"
+abbrev pub between : Point → Point → ℕ → ℤ
+between a b v = a .power +ℤ quotZ ((b .power -ℤ a .power) *ℤ pos (v - a .volts)) (pos (b .volts - a .volts))
+
+-- along the points from a: from the next point on the rest of the curve, before a flat, and past the last point flat
+unfoldable pub curveFrom : Point → List Point → ℕ → ℤ
+curveFrom a [] v = a .power
+curveFrom a (b ∷ rest) v = cond (leb (b .volts) v) (curveFrom b rest v) (cond (leb (a .volts) v) (between a b v) (a .power))
+
+-- rule 7: the volt-var or volt-watt curve at a voltage
+unfoldable pub curve : List Point → ℕ → ℤ
+curve [] v = pos 0
+curve (a ∷ rest) v = curveFrom a rest v
+
+-- rule 8, the nameplate: "the largest whole p with p² + vars² at most 100,000,000"
+unfoldable pub nameplate : ℤ → ℕ
+nameplate vars = largest (λ p. leb (p * p + natAbs vars * natAbs vars) 100000000) 10000

@@ -1,0 +1,5 @@
+pub mod Tests
+pub mod Sensing
+pub mod Refusals
+pub mod Settings
+pub mod Curves

@@ -1,0 +1,99 @@
+// The declared types of the interface board. What they mean stands in specs/, section by section of document 01.
+
+// A trip line: a voltage or frequency limit, and its clearing time in steps.
+pub struct Limit {
+    pub level: u32,
+    pub clearing: u32,
+}
+
+// An enter-service criterion: a range with both ends included.
+pub struct Span {
+    pub low: u32,
+    pub high: u32,
+}
+
+// A point of a volt-var or volt-watt curve.
+pub struct Point {
+    pub volts: u32,
+    pub power: i32,
+}
+
+// A sheet: the eight trip lines in sheet order, the enter-service lines, and the two curves.
+pub struct Settings {
+    pub trip: [Limit; 8],
+    pub volts: Span,
+    pub hertz: Span,
+    pub wait: u32,
+    pub ramp: u32,
+    pub var: [Point; 4],
+    pub watt: [Point; 2],
+}
+
+// The board record that a host keeps and lends: nine counters, the limits' in sheet order and then the ninth.
+pub struct Board {
+    pub status: u8,
+    pub counters: [u32; 9],
+    pub ramp: u32,
+    pub watts: u16,
+    pub vars: i16,
+}
+
+// A report. Its nine bits are one number, uv1 highest and ready lowest.
+pub struct Report {
+    pub status: u8,
+    pub bits: u16,
+    pub share: u16,
+    pub watts: u16,
+    pub vars: i16,
+}
+
+// The operating regions of ride-through, document 01's bands.
+pub enum Region {
+    Continuous,
+    Mandatory,
+    Momentary,
+    Cease,
+}
+
+// The causes for which input is turned away; `refusalNumber` of specs/ gives each its number.
+pub enum Refusal {
+    Form,
+    Range,
+    Rise,
+    Code,
+    Frequency,
+    Permission,
+    Power,
+    Sample,
+    Buffer,
+}
+
+// What checking settings finds: nothing, or the first cause and its sheet line, counted from 1.
+pub enum SettingsCheck {
+    Accepted,
+    Refused(Refusal, u8),
+}
+
+// What checking a sample finds.
+pub enum SampleCheck {
+    Accepted,
+    Refused(Refusal),
+}
+
+// What a mean-square code gives.
+pub enum Sensed {
+    Volts(u16),
+    Refused(Refusal),
+}
+
+// What a step answers.
+pub enum Answer {
+    Reported(Report),
+    Refused(Refusal),
+}
+
+// A step's answer, with the record beside it.
+pub struct Stepped {
+    pub board: Board,
+    pub answer: Answer,
+}
