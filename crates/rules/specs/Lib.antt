@@ -2,4 +2,16 @@ pub mod Tests
 pub mod Sensing
 pub mod Refusals
 pub mod Settings
+pub mod Samples
+pub mod Counters
+pub mod Regions
 pub mod Curves
+pub mod Service
+pub mod Reports
+pub mod Records
+pub mod History
+pub mod Images
+pub mod Text
+pub mod Forms
+pub mod Sheets
+pub mod Transcripts

@@ -1,0 +1,77 @@
+-- Document 01, "Two histories": what a list of accepted samples gives. It looks at no record and at no step.
+-- Assumes nothing.
+use mathlib.Core.Bool.{Bool, true, false, cond}
+use mathlib.Core.List.{List, [], _∷_, map}
+use Prim.Native.Nat.{ℕ, suc, min}
+use lib.Dec.{leb}
+use lib.IntN.{ℤ, pos}
+use Rattle.rules.specs.Tests.{any}
+use Rattle.rules.specs.Samples.{Slice, Equipment, permitted}
+use Rattle.rules.specs.Counters.{Rule, tripRules, readyRule, rules}
+use Rattle.rules.specs.Regions.{regionOf, isContinuous}
+use Rattle.rules.specs.Service.{serves, statusOf, shareOf, varsOf, wattsOf}
+use Rattle.rules.specs.Reports.{Items}
+use Rattle.rules.specs.declared.Settings.{Settings}
+
+-- accepted samples, the newest first
+abbrev pub History : Type 0
+History = List Slice
+
+-- samples put after a history, the oldest of them first
+abbrev pub followedBy : History → List Slice → History
+followedBy h [] = h
+followedBy h (x ∷ run) = followedBy (x ∷ h) run
+
+-- at how many samples in a row, up to the newest, the test has held
+unfoldable pub streak : (Slice → Bool) → History → ℕ
+streak test [] = 0
+streak test (x ∷ h) = cond (test x) (suc (streak test h)) 0
+
+-- what the rule counts has held for its whole time, ending at the newest sample
+abbrev pub complete : History → Rule → Bool
+complete h r = leb (r .top) (streak (r .counts) h)
+
+-- in service after the history
+unfoldable pub serving : Equipment → Settings → History → Bool
+serving e st [] = false
+serving e st (x ∷ h) =
+    serves (serving e st h) (permitted x)
+    (any (map (complete (x ∷ h)) (tripRules e st)))
+    (complete (x ∷ h) (readyRule e st))
+
+-- how many samples of the continuous region have come in service since the return
+abbrev pub climbedMore : Bool → Bool → Bool → ℕ → ℕ
+climbedMore was false continuous n = 0
+climbedMore false true continuous n = 0
+climbedMore true true continuous n = cond continuous (suc n) n
+
+unfoldable pub climbed : Equipment → Settings → History → ℕ
+climbed e st [] = 0
+climbed e st (x ∷ h) =
+    climbedMore (serving e st h) (serving e st (x ∷ h)) (isContinuous (regionOf e x)) (climbed e st h)
+
+unfoldable pub historyStatus : Equipment → Settings → History → ℕ
+historyStatus e st [] = 0
+historyStatus e st (x ∷ h) = statusOf (serving e st (x ∷ h)) (regionOf e x) (leb (st .ramp) (climbed e st (x ∷ h)))
+
+unfoldable pub historyShare : Equipment → Settings → History → ℕ
+historyShare e st h = shareOf st (min (st .ramp) (climbed e st h))
+
+unfoldable pub historyWatts : Equipment → Settings → History → ℕ
+historyWatts e st [] = 0
+historyWatts e st (x ∷ h) = wattsOf e st x (historyStatus e st (x ∷ h)) (historyShare e st (x ∷ h))
+
+unfoldable pub historyVars : Equipment → Settings → History → ℤ
+historyVars e st [] = pos 0
+historyVars e st (x ∷ h) = varsOf e st x (historyStatus e st (x ∷ h))
+
+-- "The report now": of the last accepted sample, or the fresh board's where there is none
+unfoldable pub historyReport : Equipment → Settings → History → Items
+historyReport e st h =
+    record {
+      status = historyStatus e st h;
+      bits = map (complete h) (rules e st);
+      share = historyShare e st h;
+      watts = historyWatts e st h;
+      vars = historyVars e st h;
+    }

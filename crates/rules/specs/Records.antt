@@ -1,0 +1,101 @@
+-- Document 01, "One sample": the board record, how a lent one is read, and what a step makes of it.
+-- Assumes nothing.
+use mathlib.Core.Bool.{Bool, true, false, cond}
+use mathlib.Core.List.{List, [], _∷_, map}
+use Prim.Native.Nat.{ℕ, min}
+use lib.Dec.{eqb}
+use lib.IntN.{pos}
+use lib.ListN.{getD, replicate}
+use Rattle.rules.specs.Tests.{any}
+use Rattle.rules.specs.Settings.{settingsCheck}
+use Rattle.rules.specs.Samples.{Slice, Equipment, permitted, sampleCheck}
+use Rattle.rules.specs.Counters.{Rule, counted, full, tripRules, readyRule, rules}
+use Rattle.rules.specs.Regions.{regionOf, isContinuous}
+use Rattle.rules.specs.Service.{serves, ramped, statusOf, inService, shareOf, varsOf, wattsOf}
+use Rattle.rules.specs.Reports.{Items, reportOf}
+use Rattle.rules.specs.declared.Settings.{Settings}
+use Rattle.rules.specs.declared.Board.{Board}
+use Rattle.rules.specs.declared.Refusal.{Refusal}
+use Rattle.rules.specs.declared.SettingsCheck.{SettingsCheck}
+use Rattle.rules.specs.declared.SampleCheck.{SampleCheck}
+use Rattle.rules.specs.declared.Answer.{Answer}
+use Rattle.rules.specs.declared.Stepped.{Stepped}
+
+-- "A fresh board is tripped with all counters, ramp, watts and vars 0"
+unfoldable pub fresh : Board
+fresh = record { status = 0; counters = replicate 9 0; ramp = 0; watts = 0; vars = pos 0 }
+
+-- something of each rule and its counter, in order
+unfoldable pub each {ℓ} : {A : Type ℓ} → (Rule → ℕ → A) → List Rule → List ℕ → List A
+each f [] ns = []
+each f (r ∷ rs) [] = []
+each f (r ∷ rs) (n ∷ ns) = f r n ∷ each f rs ns
+
+-- "a count above its top is read as the top"
+abbrev pub capped : Rule → ℕ → ℕ
+capped r n = min (r .top) n
+
+-- "an unknown status as tripped, a tripped board's ramp count as 0, watts above 10000 as 10000"
+unfoldable pub readAs : Equipment → Settings → Board → Board
+readAs e st b =
+    record {
+      status = cond (inService (b .status)) (b .status) 0;
+      counters = each capped (rules e st) (b .counters);
+      ramp = cond (inService (b .status)) (min (st .ramp) (b .ramp)) 0;
+      watts = min 10000 (b .watts);
+      vars = b .vars;
+    }
+
+-- the record after rules 5 to 8, from: the nine counters, in service, the ramp count
+unfoldable pub settled : Equipment → Settings → Slice → List ℕ → Bool → ℕ → Board
+settled e st x counters on ramp =
+    let status = statusOf on (regionOf e x) (eqb ramp (st .ramp)) in
+    record {
+      status = status;
+      counters = counters;
+      ramp = ramp;
+      watts = wattsOf e st x status (shareOf st ramp);
+      vars = varsOf e st x status;
+    }
+
+-- rules 1 to 8: what an accepted sample makes of a record that is in order
+unfoldable pub ruled : Equipment → Settings → Slice → Board → Board
+ruled e st x b =
+    let counters = each (counted x) (rules e st) (b .counters) in
+    let trip = any (each full (tripRules e st) counters) in
+    let ready = full (readyRule e st) (getD counters 8 0) in
+    let was = inService (b .status) in
+    let on = serves was (permitted x) trip ready in
+    settled e st x counters on (ramped was on (isContinuous (regionOf e x)) (st .ramp) (b .ramp))
+
+-- what an accepted sample makes of a lent record
+unfoldable pub next : Equipment → Settings → Slice → Board → Board
+next e st x b = ruled e st x (readAs e st b)
+
+-- what a record shows after a step
+unfoldable pub shown : Equipment → Settings → Board → Items
+shown e st b =
+    record {
+      status = b .status;
+      bits = each full (rules e st) (b .counters);
+      share = shareOf st (b .ramp);
+      watts = b .watts;
+      vars = b .vars;
+    }
+
+-- "A refused call yields its number .. and no report. All refusals change nothing."
+abbrev pub turnedAway : Board → Refusal → Stepped
+turnedAway b cause = record { board = b; answer = Answer.Refused cause }
+
+abbrev pub onSample : Equipment → Settings → Slice → Board → SampleCheck → Stepped
+onSample e st x b (SampleCheck.Refused cause) = turnedAway b cause
+onSample e st x b SampleCheck.Accepted =
+    record { board = next e st x b; answer = Answer.Reported (reportOf (shown e st (next e st x b))) }
+
+abbrev pub onSettings : Equipment → Settings → Slice → Board → SettingsCheck → Stepped
+onSettings e st x b (SettingsCheck.Refused cause line) = turnedAway b cause
+onSettings e st x b SettingsCheck.Accepted = onSample e st x b (sampleCheck x)
+
+-- "Settings lent to a step are checked again for refusals 2 and 3, in sheet order, before the sample."
+unfoldable pub stepOf : Equipment → Board → Settings → Slice → Stepped
+stepOf e b st x = onSettings e st x b (settingsCheck st)

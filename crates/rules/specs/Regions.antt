@@ -1,0 +1,47 @@
+-- Document 01, "One sample", rule 3: the operating regions of ride-through, which the paper calls bands.
+-- Assumes nothing.
+use mathlib.Core.Bool.{Bool, true, false, cond}
+use Prim.Native.Nat.{ℕ}
+use lib.Dec.{leb, ltb}
+use Rattle.rules.specs.Tests.{within}
+use Rattle.rules.specs.Sensing.{voltage}
+use Rattle.rules.specs.Samples.{Slice, Equipment, frequency, lowest, highest}
+use Rattle.rules.specs.declared.Region.{Region}
+use Rattle.rules.specs.declared.Region.the-variants.{Continuous, Mandatory, Momentary, Cease}
+
+-- "above 12000 cease; 11001–12000 momentary; 8800–11000 continuous; 5000–8799 mandatory; below 5000 momentary"
+unfoldable pub voltageRegion : ℕ → Region
+voltageRegion v =
+    cond (ltb 12000 v) Cease
+    (cond (ltb 11000 v) Momentary
+    (cond (leb 8800 v) Continuous
+    (cond (leb 5000 v) Mandatory
+    Momentary)))
+
+-- "58800–61200 continuous, otherwise mandatory"
+unfoldable pub frequencyRegion : ℕ → Region
+frequencyRegion f = cond (within 58800 61200 f) Continuous Mandatory
+
+-- "in the order continuous, mandatory, momentary, cease"
+abbrev pub rank : Region → ℕ
+rank Continuous = 0
+rank Mandatory = 1
+rank Momentary = 2
+rank Cease = 3
+
+abbrev pub worse : Region → Region → Region
+worse a b = cond (leb (rank b) (rank a)) a b
+
+-- "The worst of lowest voltage, highest voltage and frequency holds"
+unfoldable pub regionOf : Equipment → Slice → Region
+regionOf e x = worse (e .region (lowest e x)) (worse (e .region (highest e x)) (frequencyRegion (frequency x)))
+
+abbrev pub isContinuous : Region → Bool
+isContinuous Continuous = true
+isContinuous Mandatory = false
+isContinuous Momentary = false
+isContinuous Cease = false
+
+-- the board of document 01: its own sensing table and the Category III voltage regions
+abbrev pub ourEquipment : Equipment
+ourEquipment = record { sensing = voltage; region = voltageRegion }

@@ -1,0 +1,59 @@
+-- Document 01, "One sample", rules 4 to 6 and 8: trip and return, ramp, status, share, and the powers.
+-- Assumes nothing.
+use mathlib.Core.Bool.{Bool, true, false, cond, not, _&&_}
+use Prim.Native.Nat.{ℕ, suc, _*_, _/_, min}
+use lib.IntN.{ℤ, pos, natAbs}
+use Rattle.rules.specs.Tests.{within}
+use Rattle.rules.specs.Samples.{Slice, Equipment, available, operatorLimit, mean}
+use Rattle.rules.specs.Curves.{curve, nameplate}
+use Rattle.rules.specs.declared.Settings.{Settings}
+use Rattle.rules.specs.declared.Region.{Region}
+use Rattle.rules.specs.declared.Region.the-variants.{Continuous, Mandatory, Momentary, Cease}
+
+-- Rule 4: in service after the step, from: in service before, permission, some limit's bit, ready.
+abbrev pub serves : Bool → Bool → Bool → Bool → Bool
+serves true permit trip ready = permit && not trip
+serves false permit trip ready = ready
+
+-- Rule 4: the ramp count after the step, from: in service before and after, the continuous region, the ramp length, the count before.
+abbrev pub ramped : Bool → Bool → Bool → ℕ → ℕ → ℕ
+ramped was false continuous length n = 0
+ramped false true continuous length n = 0
+ramped true true continuous length n = cond continuous (min length (suc n)) n
+
+-- Rule 5: the status, from: in service, the region, the ramp count full. Its numbers are the paper's.
+abbrev pub statusOf : Bool → Region → Bool → ℕ
+statusOf false region full = 0  -- tripped
+statusOf true Continuous false = 1  -- entering
+statusOf true Continuous true = 2  -- continuous
+statusOf true Mandatory full = 3
+statusOf true Momentary full = 4
+statusOf true Cease full = 5
+
+-- in service; an unknown status is read as tripped
+abbrev pub inService : ℕ → Bool
+inService status = within 1 5 status
+
+-- statuses 1 to 3 give power; in momentary cessation and cease to energize there is none
+abbrev pub exports : ℕ → Bool
+exports status = within 1 3 status
+
+-- Rule 6: "10000 × ramp count ÷ ramp length, rounded down"
+abbrev pub shareOf : Settings → ℕ → ℕ
+shareOf st ramp = 10000 * ramp / st .ramp
+
+-- Rule 8: "In statuses 1 to 3, vars are the var curve's .. In others both are 0."
+unfoldable pub varsOf : Equipment → Settings → Slice → ℕ → ℤ
+varsOf e st x status = cond (exports status) (curve (st .var) (mean e x)) (pos 0)
+
+-- the watt curve; an accepted sheet's has no negative power
+abbrev pub wattCurve : Equipment → Settings → Slice → ℕ
+wattCurve e st x = natAbs (curve (st .watt) (mean e x))
+
+-- "the least of available, operator's limit, share, watt curve and the largest whole p with p² + vars² at most 100,000,000"
+abbrev pub least : Equipment → Settings → Slice → ℕ → ℤ → ℕ
+least e st x share vars =
+    min (available x) (min (operatorLimit x) (min share (min (wattCurve e st x) (nameplate vars))))
+
+unfoldable pub wattsOf : Equipment → Settings → Slice → ℕ → ℕ → ℕ
+wattsOf e st x status share = cond (exports status) (least e st x share (varsOf e st x status)) 0

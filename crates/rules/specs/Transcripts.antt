@@ -1,0 +1,104 @@
+-- Document 01, "Image and program": what `board` writes for a whole input.
+-- Assumes nothing.
+use mathlib.Core.Bool.{Bool, true, false, cond}
+use mathlib.Core.List.{List, [], _∷_, _++_, map}
+use mathlib.Core.Option.{Option, none, some}
+use Prim.Native.Nat.{ℕ, zero, suc, _+_, _/_, _%_}
+use Prim.Native.String.{String}
+use lib.Dec.{eqb}
+use lib.IntN.{ℤ, natAbs}
+use lib.ListN.{take, drop, getD}
+use Rattle.rules.specs.Refusals.{refusalNumber}
+use Rattle.rules.specs.Samples.{Slice, Equipment}
+use Rattle.rules.specs.Reports.{Items}
+use Rattle.rules.specs.Records.{fresh, stepOf}
+use Rattle.rules.specs.Text.{bytes, feed, decimal, signedDecimal}
+use Rattle.rules.specs.Forms.{sampleForm, numbersOf}
+use Rattle.rules.specs.Sheets.{SheetReading, readSheet}
+use Rattle.rules.specs.declared.Settings.{Settings}
+use Rattle.rules.specs.declared.Board.{Board}
+use Rattle.rules.specs.declared.Report.{Report}
+use Rattle.rules.specs.declared.Refusal.{Refusal}
+use Rattle.rules.specs.declared.Refusal.the-variants.{Sample}
+use Rattle.rules.specs.declared.SettingsCheck.{SettingsCheck}
+use Rattle.rules.specs.declared.Answer.{Answer}
+use Rattle.rules.specs.declared.Stepped.{Stepped}
+
+-- ---- the lines that are written
+
+-- the status words, by number
+abbrev pub statusWords : List String
+statusWords = "tripped" ∷ "entering" ∷ "continuous" ∷ "mandatory" ∷ "momentary" ∷ "cease" ∷ []
+
+-- the lowest k bits of a number as digits, the highest first
+unfoldable pub bitDigits : ℕ → ℕ → List ℕ
+bitDigits zero n = []
+bitDigits (suc k) n = bitDigits k (n / 2) ++ ((48 + n % 2) ∷ [])
+
+-- "status word, nine bits (sheet order, then ready), share, watts, vars"
+unfoldable pub reportLine : Report → List ℕ
+reportLine r =
+    bytes "(report " ++ (bytes (getD statusWords (r .status) "") ++ (bytes " " ++ (bitDigits 9 (r .bits)
+    ++ (bytes " " ++ (decimal (r .share) ++ (bytes " " ++ (decimal (r .watts) ++ (bytes " " ++ (signedDecimal (r .vars)
+    ++ bytes ")\n")))))))))
+
+-- "After `refused` come the number and the input line, from 1."
+unfoldable pub refusedLine : Refusal → ℕ → List ℕ
+refusedLine cause line = bytes "(refused " ++ (decimal (refusalNumber cause) ++ (bytes " " ++ (decimal line ++ bytes ")\n")))
+
+abbrev pub answerLine : ℕ → Answer → List ℕ
+answerLine line (Answer.Reported r) = reportLine r
+answerLine line (Answer.Refused cause) = refusedLine cause line
+
+-- ---- the lines that are read
+
+-- a line of the input, ended by its line feed or by the input's end
+pub data Line : Type 0 where
+  ended : List ℕ → Line
+  unended : List ℕ → Line
+
+-- what stands after the last line feed, if nothing, is no line
+abbrev pub lastLine : List ℕ → List Line
+lastLine [] = []
+lastLine (b ∷ s) = unended (b ∷ s) ∷ []
+
+-- the lines of a text of which `before` is read, the first one's beginning
+unfoldable pub linesAfter : List ℕ → List ℕ → List Line
+linesAfter before [] = lastLine before
+linesAfter before (b ∷ s) = cond (eqb b feed) (ended before ∷ linesAfter [] s) (linesAfter (before ++ (b ∷ [])) s)
+
+unfoldable pub linesIn : List ℕ → List Line
+linesIn s = linesAfter [] s
+
+-- ---- the samples
+
+-- "sample line unended or not of its form" is refused with 8; a line of its form is a step
+abbrev pub onSampleNumbers : Equipment → Settings → Board → Option (List ℤ) → Stepped
+onSampleNumbers e st b none = record { board = b; answer = Answer.Refused Sample }
+onSampleNumbers e st b (some ns) = stepOf e b st (map natAbs ns)
+
+unfoldable pub lineStep : Equipment → Settings → Board → Line → Stepped
+lineStep e st b (ended s) = onSampleNumbers e st b (numbersOf sampleForm s)
+lineStep e st b (unended s) = record { board = b; answer = Answer.Refused Sample }
+
+-- a line written for each line read; every line, good or bad, counts in the line number; "a refused sample is no step"
+unfoldable pub answersFrom : Equipment → Settings → Board → ℕ → List Line → List ℕ
+answersFrom e st b n [] = []
+answersFrom e st b n (l ∷ ls) = answerLine n (lineStep e st b l .answer) ++ answersFrom e st (lineStep e st b l .board) (suc n) ls
+
+-- ---- the whole input
+
+-- "Its input ends at byte 1,000,000,000,000 at the latest."
+abbrev pub inputEnd : ℕ
+inputEnd = 1000000000000
+
+-- "A refused sheet ends the program"; the samples begin at input line 14
+abbrev pub onSheet : Equipment → SheetReading → SettingsCheck → List ℕ → List ℕ
+onSheet e r (SettingsCheck.Refused cause line) s = refusedLine cause line
+onSheet e r SettingsCheck.Accepted s = answersFrom e (r .settings) fresh 14 (linesIn (drop (r .start) s))
+
+unfoldable pub transcriptOf : Equipment → List ℕ → List ℕ
+transcriptOf e s = onSheet e (readSheet s) (readSheet s .check) s
+
+unfoldable pub transcript : Equipment → List ℕ → List ℕ
+transcript e input = transcriptOf e (take inputEnd input)
