@@ -1,0 +1,85 @@
+-- Document 01, "Two histories": lists of step calls on one record, and which samples they were heard to give.
+-- Assumes nothing.
+use mathlib.Core.Path.{_≡_}
+use mathlib.Core.Bool.{Bool, true, false, cond, _&&_}
+use mathlib.Core.Logic.{_⊎_}
+use mathlib.Core.List.{List, [], _∷_}
+use lib.IntN.{pos}
+use Rattle.rules.specs.Settings.{settingsAccepted}
+use Rattle.rules.specs.Samples.{Slice, Equipment, sampleAccepted}
+use Rattle.rules.specs.Records.{fresh, stepOf}
+use Rattle.rules.specs.History.{History}
+use Rattle.rules.specs.declared.Settings.{Settings}
+use Rattle.rules.specs.declared.Board.{Board}
+use Rattle.rules.specs.declared.Report.{Report}
+use Rattle.rules.specs.declared.Answer.{Answer}
+use Rattle.rules.specs.declared.Stepped.{Stepped}
+
+-- a step call: the settings and the slice that it lends beside the record
+pub record Call : Type 0 where
+  pub settings : Settings
+  pub slice : Slice
+
+-- any program that could be called a board: the record it begins with, and what a step answers and leaves of a record
+pub record Program : Type 0 where
+  pub start : Board
+  pub step : Board → Settings → Slice → Stepped
+
+-- ours: a fresh board, and the step by document 01's rules
+abbrev pub ruledBy : Equipment → Program
+ruledBy e = record { start = fresh; step = stepOf e }
+
+-- "its report, before any sample, is tripped with all bits and numbers 0"
+abbrev pub freshReport : Report
+freshReport = record { status = 0; bits = 0; share = 0; watts = 0; vars = pos 0 }
+
+-- a board at work: its record, and the last report it gave
+pub record Run : Type 0 where
+  pub board : Board
+  pub report : Report
+
+-- a refused call gives no report: the last one stands
+abbrev pub lastReport : Report → Answer → Report
+lastReport old (Answer.Reported new) = new
+lastReport old (Answer.Refused cause) = old
+
+-- "each call is lent it as the last one left it"
+abbrev pub called : Program → Run → Call → Run
+called p r c =
+    record {
+      board = p .step (r .board) (c .settings) (c .slice) .board;
+      report = lastReport (r .report) (p .step (r .board) (c .settings) (c .slice) .answer);
+    }
+
+abbrev pub calledAll : Program → Run → List Call → Run
+calledAll p r [] = r
+calledAll p r (c ∷ cs) = calledAll p (called p r c) cs
+
+-- a list of calls, the oldest first, on one record from the beginning
+abbrev pub runOf : Program → List Call → Run
+runOf p cs = calledAll p (record { board = p .start; report = freshReport }) cs
+
+-- ---- the accepted samples
+
+abbrev pub callAccepted : Call → Bool
+callAccepted c = settingsAccepted (c .settings) && sampleAccepted (c .slice)
+
+-- the history, newest first, after one call more: "a refused call may stand anywhere and is no step"
+abbrev pub heardOne : History → Call → History
+heardOne h c = cond (callAccepted c) (c .slice ∷ h) h
+
+abbrev pub heardAfter : History → List Call → History
+heardAfter h [] = h
+heardAfter h (c ∷ cs) = heardAfter (heardOne h c) cs
+
+-- the accepted samples of a list of calls
+abbrev pub heard : List Call → History
+heard cs = heardAfter [] cs
+
+-- "A call lends any slice, with the sheet's settings or with settings that 2 or 3 refuses."
+abbrev pub LendsUnder : Settings → Call → Type 0
+LendsUnder st c = (c .settings ≡ st) ⊎ (settingsAccepted (c .settings) ≡ false)
+
+abbrev pub Under : Settings → List Call → Type 0
+Under st [] = Unit {0}
+Under st (c ∷ cs) = LendsUnder st c × Under st cs

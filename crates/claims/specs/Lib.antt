@@ -1,0 +1,4 @@
+pub mod Calls
+pub mod Held
+pub mod Sound
+pub mod TripAndReturn

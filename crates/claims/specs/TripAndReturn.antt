@@ -1,0 +1,64 @@
+-- Demand 2, as a claim about any program that could be called a board.
+-- Assumes nothing.
+use mathlib.Core.Path.{_≡_}
+use mathlib.Core.Bool.{Bool, true, false}
+use mathlib.Core.Logic.{_⊎_, _↔_}
+use mathlib.Core.List.{List, [], _∷_, _++_, map}
+use Prim.Native.Nat.{ℕ, min}
+use Rattle.rules.specs.Settings.{settingsAccepted}
+use Rattle.rules.specs.Samples.{Slice, Equipment, permitted}
+use Rattle.rules.specs.Counters.{Rule, rules}
+use Rattle.rules.specs.Regions.{regionOf}
+use Rattle.rules.specs.Service.{inService}
+use Rattle.rules.specs.Reports.{reportOf}
+use Rattle.rules.specs.Records.{fresh, settled}
+use Rattle.rules.specs.History.{History, streak, serving, climbed, historyReport}
+use Rattle.rules.specs.declared.Settings.{Settings}
+use Rattle.rules.specs.declared.Board.{Board}
+use Rattle.rules.specs.declared.Region.the-variants.{Continuous}
+use Rattle.claims.specs.Calls.{Call, Program, Run, called, runOf, callAccepted, heard, LendsUnder, Under}
+use Rattle.claims.specs.Held.{RanOut, WaitFull}
+
+-- ---- the record that a history gives
+
+abbrev pub countOf : History → Rule → ℕ
+countOf h r = min (r .top) (streak (r .counts) h)
+
+unfoldable pub recordOf : Equipment → Settings → History → Board
+recordOf e st [] = fresh
+recordOf e st (x ∷ h) =
+    settled e st x (map (countOf (x ∷ h)) (rules e st)) (serving e st (x ∷ h)) (min (st .ramp) (climbed e st (x ∷ h)))
+
+-- ---- what is claimed, under an accepted sheet
+
+-- before and now, where a list of calls is followed by an accepted one
+abbrev pub statusBefore : Program → List Call → ℕ
+statusBefore p cs = runOf p cs .report .status
+
+abbrev pub statusNow : Program → List Call → Call → ℕ
+statusNow p cs c = called p (runOf p cs) c .report .status
+
+-- a call that is accepted, after calls under the sheet
+pub record Next (st : Settings) (cs : List Call) (c : Call) : Type 0 where
+  pub under : Under st cs
+  pub lends : LendsUnder st c
+  pub accepted : callAccepted c ≡ true
+
+pub record TripAndReturn (e : Equipment) (p : Program) (st : Settings) : Type 0 where
+  -- the last report is the one that the accepted samples alone give, or the fresh board's where there are none
+  pub shows : (cs : List Call) → Under st cs → runOf p cs .report ≡ reportOf (historyReport e st (heard cs))
+  -- the record is the one that they give
+  pub keeps : (cs : List Call) → Under st cs → runOf p cs .board ≡ recordOf e st (heard cs)
+  -- in service, it trips at a step exactly when permission is off or some limit has been broken for its whole clearing time, ending there
+  pub trips : (cs : List Call) (c : Call) → Next st cs c → inService (statusBefore p cs) ≡ true
+      → (statusNow p cs c ≡ 0) ↔ ((permitted (c .slice) ≡ false) ⊎ RanOut e st (c .slice ∷ heard cs))
+  -- tripped, it returns exactly when its full wait has just been in range with permission on
+  pub returns : (cs : List Call) (c : Call) → Next st cs c → statusBefore p cs ≡ 0
+      → (inService (statusNow p cs c) ≡ true) ↔ WaitFull e st (c .slice ∷ heard cs)
+  -- a return is always in the continuous operation region
+  pub returns-even : (cs : List Call) (c : Call) → Next st cs c → statusBefore p cs ≡ 0 → inService (statusNow p cs c) ≡ true
+      → regionOf e (c .slice) ≡ Continuous
+
+-- demand 2, of a board program: under every accepted sheet
+abbrev pub Demand2 : Equipment → Program → Type 0
+Demand2 e p = (st : Settings) → settingsAccepted st ≡ true → TripAndReturn e p st

@@ -1,0 +1,150 @@
+-- What an accepted sheet and an accepted sample tell: each number is in its row.
+-- Assumes nothing.
+use mathlib.Core.Path.{_≡_, refl, sym, ap, _∙_, subst}
+use mathlib.Core.Bool.{Bool, true, false, cond, _&&_, false≢true}
+use mathlib.Core.List.{List, [], _∷_, map}
+use Prim.Native.Nat.{ℕ, zero, suc, _+_, _≤_, _<_}
+use native.Mathlib.Nat.{not-suc-le-zero, le-of-suc-le-suc}
+use native.Mathlib.Omega.{arith}
+use lib.Dec.{leb, eqb}
+use lib.IntN.{pos}
+use lib.ListN.{length, getD}
+use borrow.Author.Tests.{leb-true, eqb-true}
+use Rattle.rules.specs.Tests.{all, within}
+use Rattle.rules.specs.Sensing.{lastCode}
+use Rattle.rules.specs.Settings.{Pair, pair, Row, row, rows, inRow, rising, checkFrom, linesOf, settingsCheck, isAccepted, settingsAccepted, limitAt}
+use Rattle.rules.specs.Samples.{Slice, codeOf, frequency, permission, available, operatorLimit, unless, sampleCheck, sampleAccepted}
+use Rattle.rules.specs.Samples as samples
+use Rattle.rules.specs.declared.Settings.{Settings}
+use Rattle.rules.specs.declared.Refusal.{Refusal}
+use Rattle.rules.specs.declared.Refusal.the-variants.{Range, Rise, Code, Frequency, Permission, Power, Sample}
+use Rattle.rules.specs.declared.SettingsCheck.{SettingsCheck}
+use Rattle.rules.specs.declared.SampleCheck.{SampleCheck}
+use Rattle.laws.proofs.Bools.{both, at-all, within-true}
+
+-- ---- a sheet
+
+-- a line that passes: its pairs are in their row, and rise
+pub record LineRight (r : Row) (ps : List Pair) : Type 0 where
+  pub in-row : all (map (inRow r) ps) ≡ true
+  pub rise : rising ps ≡ true
+
+line-right : (a b : Bool) (next : SettingsCheck) (n : ℕ)
+    → isAccepted (cond a (cond b next (SettingsCheck.Refused Rise n)) (SettingsCheck.Refused Range n)) ≡ true
+    → (a ≡ true) × (b ≡ true) × (isAccepted next ≡ true)
+line-right true true next n e = (refl, refl, e)
+line-right true false next n e = absurd (false≢true e)
+line-right false b next n e = absurd (false≢true e)
+
+-- line i of accepted lines, by its place
+pub line-at : (n : ℕ) (rs : List Row) (ls : List (List Pair)) → isAccepted (checkFrom n rs ls) ≡ true
+    → (i : ℕ) → i < length rs → i < length ls → LineRight (getD rs i (row 0 0 0 0)) (getD ls i [])
+unfolding checkFrom
+line-at n [] ls e i h k = absurd (not-suc-le-zero h)
+line-at n (r ∷ rs) [] e i h k = absurd (not-suc-le-zero k)
+line-at n (r ∷ rs) (ps ∷ ls) e zero h k =
+    let q = line-right (all (map (inRow r) ps)) (rising ps) (checkFrom (suc n) rs ls) n e in
+    record { in-row = q .0; rise = q .1 }
+line-at n (r ∷ rs) (ps ∷ ls) e (suc i) h k =
+    let q = line-right (all (map (inRow r) ps)) (rising ps) (checkFrom (suc n) rs ls) n e in
+    line-at (suc n) rs ls (q .2) i (le-of-suc-le-suc h) (le-of-suc-le-suc k)
+
+-- a pair of numbers that are not negative, in its row
+pub record InRow (a b c d x y : ℕ) : Type 0 where
+  pub first-low : a ≤ x
+  pub first-high : x ≤ b
+  pub second-low : c ≤ y
+  pub second-high : y ≤ d
+
+in-row : (a b c d x y : ℕ) → inRow (row a b c d) (pair (pos x) (pos y)) ≡ true → InRow a b c d x y
+unfolding inRow
+in-row a b c d x y e =
+    record {
+      first-low = leb-true a x (at-all _ e 0);
+      first-high = leb-true x b (at-all _ e 1);
+      second-low = leb-true c y (at-all _ e 2);
+      second-high = leb-true y d (at-all _ e 3);
+    }
+
+-- a line of one such pair
+one-pair : (a b c d x y : ℕ) → LineRight (row a b c d) (pair (pos x) (pos y) ∷ []) → InRow a b c d x y
+unfolding all
+one-pair a b c d x y l = in-row a b c d x y (both (inRow (row a b c d) (pair (pos x) (pos y))) true (l .in-row) .0)
+
+abbrev LimitIn : Settings → ℕ → ℕ → ℕ → ℕ → ℕ → Type 0
+LimitIn st i a b c d = InRow a b c d (limitAt st i .level) (limitAt st i .clearing)
+
+-- the rows of an accepted sheet
+pub record Rows (st : Settings) : Type 0 where
+  pub uv1 : LimitIn st 0 0 8800 2100 5000
+  pub uv2 : LimitIn st 1 0 5000 200 2100
+  pub ov1 : LimitIn st 2 11000 12000 100 1300
+  pub ov2 : LimitIn st 3 12000 12000 16 16
+  pub uf1 : LimitIn st 4 50000 59000 18000 100000
+  pub uf2 : LimitIn st 5 50000 57000 16 100000
+  pub of1 : LimitIn st 6 61000 66000 18000 100000
+  pub of2 : LimitIn st 7 61800 66000 16 100000
+  pub volts : InRow 8800 9500 10500 10600 (st .volts .low) (st .volts .high)
+  pub hertz : InRow 59000 59900 60100 61000 (st .hertz .low) (st .hertz .high)
+  pub wait : InRow 0 60000 100 100000 (st .wait) (st .ramp)
+
+-- line i of the thirteen
+pub sheet-line : (st : Settings) → settingsAccepted st ≡ true → (i : ℕ) → i < 13
+    → LineRight (getD rows i (row 0 0 0 0)) (getD (linesOf st) i [])
+unfolding settingsCheck rows linesOf
+sheet-line st e i h = line-at 1 rows (linesOf st) e i h h
+
+pub sheet-rows : (st : Settings) → settingsAccepted st ≡ true → Rows st
+unfolding rows linesOf
+sheet-rows st e =
+    record {
+      uv1 = one-pair _ _ _ _ _ _ (sheet-line st e 0 (omega arith));
+      uv2 = one-pair _ _ _ _ _ _ (sheet-line st e 1 (omega arith));
+      ov1 = one-pair _ _ _ _ _ _ (sheet-line st e 2 (omega arith));
+      ov2 = one-pair _ _ _ _ _ _ (sheet-line st e 3 (omega arith));
+      uf1 = one-pair _ _ _ _ _ _ (sheet-line st e 4 (omega arith));
+      uf2 = one-pair _ _ _ _ _ _ (sheet-line st e 5 (omega arith));
+      of1 = one-pair _ _ _ _ _ _ (sheet-line st e 6 (omega arith));
+      of2 = one-pair _ _ _ _ _ _ (sheet-line st e 7 (omega arith));
+      volts = one-pair _ _ _ _ _ _ (sheet-line st e 8 (omega arith));
+      hertz = one-pair _ _ _ _ _ _ (sheet-line st e 9 (omega arith));
+      wait = one-pair _ _ _ _ _ _ (sheet-line st e 10 (omega arith));
+    }
+
+-- ---- a sample
+
+pub record SampleRight (x : Slice) : Type 0 where
+  pub seven : length x ≡ 7
+  pub code0 : codeOf x 0 ≤ lastCode
+  pub code1 : codeOf x 1 ≤ lastCode
+  pub code2 : codeOf x 2 ≤ lastCode
+  pub frequency-low : 40000 ≤ frequency x
+  pub frequency-high : frequency x ≤ 80000
+  pub permission-top : permission x ≤ 1
+  pub available-top : available x ≤ 10000
+  pub limit-top : operatorLimit x ≤ 10000
+
+passed : (t : Bool) (cause : Refusal) (next : SampleCheck) → samples.isAccepted (unless t cause next) ≡ true
+    → (t ≡ true) × (samples.isAccepted next ≡ true)
+passed true cause next e = (refl, e)
+passed false cause next e = absurd (false≢true e)
+
+pub sample-right : (x : Slice) → sampleAccepted x ≡ true → SampleRight x
+unfolding sampleCheck
+sample-right x e =
+    let a = passed _ Sample _ e in
+    let b = passed _ Code _ (a .1) in
+    let c = passed _ Frequency _ (b .1) in
+    let d = passed _ Permission _ (c .1) in
+    let p = passed _ Power _ (d .1) in
+    record {
+      seven = eqb-true (length x) 7 (a .0);
+      code0 = leb-true (codeOf x 0) 4095 (at-all _ (b .0) 0);
+      code1 = leb-true (codeOf x 1) 4095 (at-all _ (b .0) 1);
+      code2 = leb-true (codeOf x 2) 4095 (at-all _ (b .0) 2);
+      frequency-low = within-true (c .0) .0;
+      frequency-high = within-true (c .0) .1;
+      permission-top = leb-true (permission x) 1 (d .0);
+      available-top = leb-true (available x) 10000 (at-all _ (p .0) 0);
+      limit-top = leb-true (operatorLimit x) 10000 (at-all _ (p .0) 1);
+    }

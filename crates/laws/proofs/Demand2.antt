@@ -1,0 +1,182 @@
+-- Demand 2 holds of the board by document 01's rules, for any sound equipment.
+-- Assumes nothing.
+use mathlib.Core.Path.{_≡_, refl, sym, ap, _∙_, subst}
+use mathlib.Core.Bool.{Bool, true, false, cond, _&&_, false≢true, true≢false}
+use mathlib.Core.Logic.{_⊎_, ⊎-elim, _↔_}
+use mathlib.Core.List.{List, [], _∷_, map}
+use Prim.Native.Nat.{ℕ, _≤_, max}
+use native.Mathlib.Nat.{min-zero, zero-div}
+use native.Mathlib.Omega.{arith}
+use lib.IntN.{pos}
+use borrow.Author.Tests.{lt-leb}
+use Rattle.rules.specs.Tests.{within}
+use Rattle.rules.specs.Settings.{settingsCheck, isAccepted, settingsAccepted, limitAt}
+use Rattle.rules.specs.Samples.{Slice, Equipment, permitted, sampleCheck, sampleAccepted}
+use Rattle.rules.specs.Samples as samples
+use Rattle.rules.specs.Counters.{rules}
+use Rattle.rules.specs.Regions.{regionOf}
+use Rattle.rules.specs.Service.{statusOf, inService}
+use Rattle.rules.specs.Reports.{Items, reportOf}
+use Rattle.rules.specs.Records.{fresh, next, shown, turnedAway, onSample, onSettings, stepOf}
+use Rattle.rules.specs.History.{History, streak, complete, serving, climbed, historyStatus, historyShare, historyWatts, historyVars, historyReport}
+use Rattle.rules.specs.declared.Settings.{Settings}
+use Rattle.rules.specs.declared.Board.{Board}
+use Rattle.rules.specs.declared.Report.{Report}
+use Rattle.rules.specs.declared.Region.the-variants.{Continuous}
+use Rattle.rules.specs.declared.Refusal.{Refusal}
+use Rattle.rules.specs.declared.SettingsCheck.{SettingsCheck}
+use Rattle.rules.specs.declared.SampleCheck.{SampleCheck}
+use Rattle.rules.specs.declared.Answer.{Answer}
+use Rattle.rules.specs.declared.Stepped.{Stepped}
+use Rattle.claims.specs.Calls.{Call, Program, Run, ruledBy, freshReport, lastReport, called, calledAll, runOf, callAccepted, heardOne, heardAfter, heard, LendsUnder, Under}
+use Rattle.claims.specs.Held.{RanOut, WaitFull}
+use Rattle.claims.specs.Sound.{Sound}
+use Rattle.claims.specs.TripAndReturn.{recordOf, Next, TripAndReturn, Demand2}
+use Rattle.laws.proofs.Bools.{both}
+use Rattle.laws.proofs.Accepted.{sheet-rows}
+use Rattle.laws.proofs.Trace.{service-status, service-is, status-is, next-is, shown-is}
+use Rattle.laws.proofs.Trip.{trip-law, return-law, return-even}
+
+-- ---- one call
+
+module _ (e : Equipment) (b : Board) (s : Settings) (x : Slice) where
+  -- an accepted call is a step
+  pub accepted-step : settingsAccepted s ≡ true → sampleAccepted x ≡ true
+      → stepOf e b s x ≡ record { board = next e s x b; answer = Answer.Reported (reportOf (shown e s (next e s x b))) }
+  unfolding stepOf
+  accepted-step p q = on-settings (settingsCheck s) p
+    where
+      on-sample : (m : SampleCheck) → samples.isAccepted m ≡ true
+          → onSample e s x b m ≡ record { board = next e s x b; answer = Answer.Reported (reportOf (shown e s (next e s x b))) }
+      on-sample SampleCheck.Accepted r = refl
+      on-sample (SampleCheck.Refused cause) r = absurd (false≢true r)
+
+      on-settings : (k : SettingsCheck) → isAccepted k ≡ true
+          → onSettings e s x b k ≡ record { board = next e s x b; answer = Answer.Reported (reportOf (shown e s (next e s x b))) }
+      on-settings SettingsCheck.Accepted r = on-sample (sampleCheck x) q
+      on-settings (SettingsCheck.Refused cause line) r = absurd (false≢true r)
+
+  -- a refused one changes nothing and gives no report
+  pub refused-step : (settingsAccepted s && sampleAccepted x) ≡ false → (cause : Refusal) × (stepOf e b s x ≡ turnedAway b cause)
+  unfolding stepOf
+  refused-step p = on-settings (settingsCheck s) p
+    where
+      on-sample : (m : SampleCheck) → samples.isAccepted m ≡ false → (cause : Refusal) × (onSample e s x b m ≡ turnedAway b cause)
+      on-sample SampleCheck.Accepted r = absurd (true≢false r)
+      on-sample (SampleCheck.Refused cause) r = (cause, refl)
+
+      on-settings : (k : SettingsCheck) → (isAccepted k && sampleAccepted x) ≡ false → (cause : Refusal) × (onSettings e s x b k ≡ turnedAway b cause)
+      on-settings SettingsCheck.Accepted r = on-sample (sampleCheck x) r
+      on-settings (SettingsCheck.Refused cause line) r = (cause, refl)
+
+-- ---- a list of calls, for an accepted sheet
+
+module _ (e : Equipment) (st : Settings) where
+  -- a board at work, as a history gives it
+  abbrev pub at : History → Run
+  at h = record { board = recordOf e st h; report = reportOf (historyReport e st h) }
+
+  -- what a step's result makes of a board at work
+  abbrev after : Run → Stepped → Run
+  after r t = record { board = t .board; report = lastReport (r .report) (t .answer) }
+
+  call-is : (h : History) (c : Call) → LendsUnder st c → called (ruledBy e) (at h) c ≡ at (heardOne h c)
+  call-is h c l = by (callAccepted c) refl
+    where
+      stepped : c .settings ≡ st → settingsAccepted (c .settings) ≡ true → sampleAccepted (c .slice) ≡ true
+          → after (at h) (stepOf e (recordOf e st h) (c .settings) (c .slice)) ≡ at (c .slice ∷ h)
+      stepped q a d =
+          ap (after (at h)) (accepted-step e (recordOf e st h) (c .settings) (c .slice) a d)
+          ∙ ap (λ (s : Settings). after (at h) (record { board = next e s (c .slice) (recordOf e st h); answer = Answer.Reported (reportOf (shown e s (next e s (c .slice) (recordOf e st h)))) })) q
+          ∙ ap (λ (b : Board). after (at h) (record { board = b; answer = Answer.Reported (reportOf (shown e st b)) })) (next-is e st h (c .slice))
+          ∙ ap (λ (i : Items). record { board = recordOf e st (c .slice ∷ h); report = reportOf i }) (shown-is e st (c .slice ∷ h))
+
+      by : (t : Bool) → callAccepted c ≡ t → after (at h) (stepOf e (recordOf e st h) (c .settings) (c .slice)) ≡ at (cond t (c .slice ∷ h) h)
+      by true p =
+          let q = both (settingsAccepted (c .settings)) (sampleAccepted (c .slice)) p in
+          ⊎-elim (λ same. stepped same (q .0) (q .1)) (λ bad. absurd (true≢false (sym (q .0) ∙ bad))) l
+      by false p =
+          let r = refused-step e (recordOf e st h) (c .settings) (c .slice) p in
+          ap (after (at h)) (r .1)
+
+  pub calls-are : (cs : List Call) (h : History) → Under st cs → calledAll (ruledBy e) (at h) cs ≡ at (heardAfter h cs)
+  calls-are [] h u = refl
+  calls-are (c ∷ cs) h u = ap (λ (r : Run). calledAll (ruledBy e) r cs) (call-is h c (u .0)) ∙ calls-are cs (heardOne h c) (u .1)
+
+  -- ---- the statuses of a history
+
+  pub service-of : (h : History) → inService (historyStatus e st h) ≡ serving e st h
+  service-of h = ap inService (sym (status-is e st h)) ∙ service-is e st h
+
+  pub tripped-of : (h : History) → historyStatus e st h ≡ 0 → serving e st h ≡ false
+  unfolding within
+  tripped-of h p = sym (service-of h) ∙ ap inService p
+
+  pub tripped-status : (h : History) → serving e st h ≡ false → historyStatus e st h ≡ 0
+  unfolding historyStatus
+  tripped-status [] p = refl
+  tripped-status (x ∷ h) p = rw p
+
+  -- ---- from the beginning
+
+  module _ (ok : settingsAccepted st ≡ true) where
+    -- the fresh board's report: tripped, with all bits and numbers 0
+    pub fresh-is : reportOf (historyReport e st []) ≡ freshReport
+    unfolding reportOf historyReport historyStatus historyShare historyWatts historyVars climbed streak
+    fresh-is =
+        let k = sheet-rows st ok in
+        rw (
+          lt-leb (limitAt st 0 .clearing) 0 (omega (arith, k .uv1 .second-low)),
+          lt-leb (limitAt st 1 .clearing) 0 (omega (arith, k .uv2 .second-low)),
+          lt-leb (limitAt st 2 .clearing) 0 (omega (arith, k .ov1 .second-low)),
+          lt-leb (limitAt st 3 .clearing) 0 (omega (arith, k .ov2 .second-low)),
+          lt-leb (limitAt st 4 .clearing) 0 (omega (arith, k .uf1 .second-low)),
+          lt-leb (limitAt st 5 .clearing) 0 (omega (arith, k .uf2 .second-low)),
+          lt-leb (limitAt st 6 .clearing) 0 (omega (arith, k .of1 .second-low)),
+          lt-leb (limitAt st 7 .clearing) 0 (omega (arith, k .of2 .second-low)),
+          lt-leb (max 1 (st .wait)) 0 (omega arith),
+          min-zero (st .ramp),
+          zero-div (st .ramp),
+        )
+
+    pub run-is : (cs : List Call) → Under st cs → runOf (ruledBy e) cs ≡ at (heard cs)
+    unfolding recordOf
+    run-is cs u =
+        ap (λ (r : Report). calledAll (ruledBy e) (record { board = fresh; report = r }) cs) (sym fresh-is)
+        ∙ calls-are cs [] u
+
+    run-next : (cs : List Call) (c : Call) → Next st cs c → called (ruledBy e) (runOf (ruledBy e) cs) c ≡ at (c .slice ∷ heard cs)
+    run-next cs c n =
+        ap (λ (r : Run). called (ruledBy e) r c) (run-is cs (n .under)) ∙ call-is (heard cs) c (n .lends)
+        ∙ ap (λ (t : Bool). at (cond t (c .slice ∷ heard cs) (heard cs))) (n .accepted)
+
+    -- ---- the five claims
+
+    statuses-before : (cs : List Call) → Under st cs → runOf (ruledBy e) cs .report .status ≡ historyStatus e st (heard cs)
+    unfolding reportOf historyReport
+    statuses-before cs u = ap (λ (r : Run). r .report .status) (run-is cs u)
+
+    statuses-now : (cs : List Call) (c : Call) → Next st cs c → called (ruledBy e) (runOf (ruledBy e) cs) c .report .status ≡ historyStatus e st (c .slice ∷ heard cs)
+    unfolding reportOf historyReport
+    statuses-now cs c n = ap (λ (r : Run). r .report .status) (run-next cs c n)
+
+    claims-hold : Sound e → TripAndReturn e (ruledBy e) st
+    claims-hold sound =
+        record {
+          shows = λ cs u. ap (λ (r : Run). r .report) (run-is cs u);
+          keeps = λ cs u. ap (λ (r : Run). r .board) (run-is cs u);
+          trips = λ cs c n p.
+              let h = heard cs in
+              let l = trip-law e st h (c .slice) (sym (service-of h) ∙ ap inService (sym (statuses-before cs (n .under))) ∙ p) in
+              ((λ q. l .0 (tripped-of (c .slice ∷ h) (sym (statuses-now cs c n) ∙ q))), (λ q. statuses-now cs c n ∙ tripped-status (c .slice ∷ h) (l .1 q)));
+          returns = λ cs c n p.
+              let h = heard cs in
+              let l = return-law e st h (c .slice) (tripped-of h (sym (statuses-before cs (n .under)) ∙ p)) in
+              ((λ q. l .0 (sym (service-of (c .slice ∷ h)) ∙ ap inService (sym (statuses-now cs c n)) ∙ q)), (λ q. ap inService (statuses-now cs c n) ∙ service-of (c .slice ∷ h) ∙ l .1 q));
+          returns-even = λ cs c n p q.
+              let h = heard cs in
+              return-even e st sound ok h (c .slice) (tripped-of h (sym (statuses-before cs (n .under)) ∙ p)) (sym (service-of (c .slice ∷ h)) ∙ ap inService (sym (statuses-now cs c n)) ∙ q);
+        }
+
+pub demand2 : (e : Equipment) → Sound e → Demand2 e (ruledBy e)
+demand2 e sound st ok = claims-hold e st ok sound

@@ -1,0 +1,133 @@
+-- A record that is run from fresh under one sheet is the one its history gives, and shows the report that the history gives.
+-- Assumes nothing.
+use mathlib.Core.Path.{_≡_, refl, sym, ap, _∙_}
+use mathlib.Core.Bool.{Bool, true, false, cond}
+use mathlib.Core.List.{List, [], _∷_, map}
+use Prim.Native.Nat.{ℕ, min}
+use native.Mathlib.Nat.{min-zero}
+use native.Mathlib.Omega.{arith}
+use lib.Dec.{eqb}
+use lib.IntN.{ℤ}
+use lib.ListN.{getD}
+use Rattle.rules.specs.Tests.{any, within}
+use Rattle.rules.specs.Samples.{Slice, Equipment, permitted}
+use Rattle.rules.specs.Counters.{Rule, counted, full, tripRules, readyRule, rules}
+use Rattle.rules.specs.Regions.{regionOf, isContinuous}
+use Rattle.rules.specs.Service.{ramped, statusOf, inService, shareOf}
+use Rattle.rules.specs.Reports.{Items}
+use Rattle.rules.specs.Records.{fresh, each, capped, readAs, settled, ruled, next, shown}
+use Rattle.rules.specs.History.{History, followedBy, streak, complete, serving, climbedMore, climbed, historyStatus, historyShare, historyWatts, historyVars, historyReport}
+use Rattle.rules.specs.declared.Settings.{Settings}
+use Rattle.rules.specs.declared.Board.{Board}
+use Rattle.rules.specs.declared.Region.{Region}
+use Rattle.rules.specs.declared.Region.the-variants.{Continuous, Mandatory, Momentary, Cease}
+use Rattle.claims.specs.TripAndReturn.{countOf, recordOf}
+use Rattle.laws.proofs.Bools.{eqb-min}
+use Rattle.laws.proofs.Counting.{counted-is, capped-is, full-is, each-of, each-all}
+
+pub service-status : (on : Bool) (r : Region) (f : Bool) → inService (statusOf on r f) ≡ on
+unfolding within
+service-status false r f = refl
+service-status true Continuous true = refl
+service-status true Continuous false = refl
+service-status true Mandatory f = refl
+service-status true Momentary f = refl
+service-status true Cease f = refl
+
+module _ (e : Equipment) (st : Settings) where
+  -- ---- what the record holds, read off the history
+
+  pub counters-are : (h : History) → recordOf e st h .counters ≡ map (countOf h) (rules e st)
+  unfolding recordOf settled fresh streak
+  counters-are [] = simp min-zero
+  counters-are (x ∷ h) = refl
+
+  pub service-is : (h : History) → inService (recordOf e st h .status) ≡ serving e st h
+  unfolding recordOf settled fresh serving within
+  service-is [] = refl
+  service-is (x ∷ h) = service-status _ (regionOf e x) (eqb (min (st .ramp) (climbed e st (x ∷ h))) (st .ramp))
+
+  pub ramp-is : (h : History) → recordOf e st h .ramp ≡ min (st .ramp) (climbed e st h)
+  unfolding recordOf settled fresh climbed
+  ramp-is [] = sym (min-zero (st .ramp))
+  ramp-is (x ∷ h) = refl
+
+  pub tripped-climbed : (h : History) → serving e st h ≡ false → climbed e st h ≡ 0
+  unfolding climbed
+  tripped-climbed [] p = refl
+  tripped-climbed (x ∷ h) p = rw p
+
+  -- ---- a record of a history is read as it is, in what a step reads
+
+  read-counters : (h : History) → readAs e st (recordOf e st h) .counters ≡ map (countOf h) (rules e st)
+  unfolding readAs
+  read-counters h = ap (each capped (rules e st)) (counters-are h) ∙ each-all capped (countOf h) h (capped-is h) (rules e st)
+
+  read-service : (h : History) → inService (readAs e st (recordOf e st h) .status) ≡ serving e st h
+  unfolding readAs within
+  read-service h = kept (recordOf e st h .status) ∙ service-is h
+    where
+      by : (s : ℕ) (b : Bool) → inService s ≡ b → inService (cond b s 0) ≡ b
+      by s true p = p
+      by s false p = refl
+
+      kept : (s : ℕ) → inService (cond (inService s) s 0) ≡ inService s
+      kept s = by s (inService s) refl
+
+  read-ramp : (h : History) → readAs e st (recordOf e st h) .ramp ≡ min (st .ramp) (climbed e st h)
+  unfolding readAs
+  read-ramp h = rw (service-is h, ramp-is h) (by (serving e st h) refl)
+    where
+      by : (b : Bool) → serving e st h ≡ b → cond b (min (st .ramp) (min (st .ramp) (climbed e st h))) 0 ≡ min (st .ramp) (climbed e st h)
+      by true p = omega arith
+      by false p = omega (arith, tripped-climbed h p)
+
+  -- ---- one accepted sample more
+
+  ramp-step : (was on c : Bool) (top n : ℕ) → ramped was on c top (min top n) ≡ min top (climbedMore was on c n)
+  ramp-step was false c top n = omega arith
+  ramp-step false true c top n = omega arith
+  ramp-step true true true top n = omega arith
+  ramp-step true true false top n = omega arith
+
+  -- rules 1 to 8 look at three parts of a record: its counters, whether it is in service, and its ramp
+  ruled-is : (b : Board) (h : History) (x : Slice) → b .counters ≡ map (countOf h) (rules e st) → inService (b .status) ≡ serving e st h → b .ramp ≡ min (st .ramp) (climbed e st h)
+      → ruled e st x b ≡ recordOf e st (x ∷ h)
+  unfolding ruled recordOf serving climbed
+  ruled-is b h x e₁ e₂ e₃ =
+      let cs : each (counted x) (rules e st) (b .counters) ≡ map (countOf (x ∷ h)) (rules e st)
+      = ap (each (counted x) (rules e st)) e₁ ∙ each-all (counted x) (countOf (x ∷ h)) h (counted-is x h) (rules e st) in
+      let ts : each full (tripRules e st) (map (countOf (x ∷ h)) (rules e st)) ≡ map (complete (x ∷ h)) (tripRules e st)
+      = each-of full (complete (x ∷ h)) (x ∷ h) (full-is (x ∷ h)) (tripRules e st) (readyRule e st ∷ []) in
+      rw (cs, e₂, e₃, ts, full-is (x ∷ h) (readyRule e st))
+      (ap (settled e st x (map (countOf (x ∷ h)) (rules e st)) (serving e st (x ∷ h))) (ramp-step (serving e st h) (serving e st (x ∷ h)) (isContinuous (regionOf e x)) (st .ramp) (climbed e st h)))
+
+  pub next-is : (h : History) (x : Slice) → next e st x (recordOf e st h) ≡ recordOf e st (x ∷ h)
+  unfolding next
+  next-is h x = ruled-is (readAs e st (recordOf e st h)) h x (read-counters h) (read-service h) (read-ramp h)
+
+  -- ---- the record of a history shows the history's report
+
+  pub status-is : (h : History) → recordOf e st h .status ≡ historyStatus e st h
+  unfolding recordOf settled fresh historyStatus
+  status-is [] = refl
+  status-is (x ∷ h) = rw eqb-min
+
+  pub watts-is : (h : History) → recordOf e st h .watts ≡ historyWatts e st h
+  unfolding recordOf settled fresh historyStatus historyWatts historyShare
+  watts-is [] = refl
+  watts-is (x ∷ h) = rw eqb-min
+
+  pub vars-is : (h : History) → recordOf e st h .vars ≡ historyVars e st h
+  unfolding recordOf settled fresh historyStatus historyVars
+  vars-is [] = refl
+  vars-is (x ∷ h) = rw eqb-min
+
+  pub shown-is : (h : History) → shown e st (recordOf e st h) ≡ historyReport e st h
+  unfolding shown historyReport historyShare
+  shown-is h =
+      made _ _ _ _ _ _ _ _ _ _ (status-is h) (ap (each full (rules e st)) (counters-are h) ∙ each-all full (complete h) h (full-is h) (rules e st)) (ap (shareOf st) (ramp-is h)) (watts-is h) (vars-is h)
+    where
+      made : (s s′ : ℕ) (b b′ : List Bool) (q q′ w w′ : ℕ) (v v′ : ℤ) → s ≡ s′ → b ≡ b′ → q ≡ q′ → w ≡ w′ → v ≡ v′
+          → _≡_ {A = Items} (record { status = s; bits = b; share = q; watts = w; vars = v }) (record { status = s′; bits = b′; share = q′; watts = w′; vars = v′ })
+      made s s′ b b′ q q′ w w′ v v′ e₁ e₂ e₃ e₄ e₅ = rw (e₁, e₂, e₃, e₄, e₅)
