@@ -2,3 +2,4 @@ pub mod Calls
 pub mod Held
 pub mod Sound
 pub mod TripAndReturn
+pub mod TwoHistories

@@ -1,10 +1,10 @@
 -- Demand 2 holds of the board by document 01's rules, for any sound equipment.
 -- Assumes nothing.
-use mathlib.Core.Path.{_≡_, refl, sym, ap, _∙_, subst}
+use mathlib.Core.Path.{_≡_, refl, sym, ap, ap₂, _∙_}
 use mathlib.Core.Bool.{Bool, true, false, cond, _&&_, false≢true, true≢false}
 use mathlib.Core.Logic.{_⊎_, ⊎-elim, _↔_}
-use mathlib.Core.List.{List, [], _∷_, map}
-use Prim.Native.Nat.{ℕ, _≤_, max}
+use mathlib.Core.List.{List, [], _∷_, _++_, map}
+use Prim.Native.Nat.{ℕ, suc, _*_, _/_, min, max}
 use native.Mathlib.Nat.{min-zero, zero-div}
 use native.Mathlib.Omega.{arith}
 use lib.IntN.{pos}
@@ -13,10 +13,10 @@ use Rattle.rules.specs.Tests.{within}
 use Rattle.rules.specs.Settings.{settingsCheck, isAccepted, settingsAccepted, limitAt}
 use Rattle.rules.specs.Samples.{Slice, Equipment, permitted, sampleCheck, sampleAccepted}
 use Rattle.rules.specs.Samples as samples
-use Rattle.rules.specs.Counters.{rules}
+use Rattle.rules.specs.Counters.{Kind, kinds, limitRules, readyRule}
 use Rattle.rules.specs.Regions.{regionOf}
 use Rattle.rules.specs.Service.{statusOf, inService}
-use Rattle.rules.specs.Reports.{Items, reportOf}
+use Rattle.rules.specs.Reports.{Items, packedAfter, reportOf}
 use Rattle.rules.specs.Records.{fresh, next, shown, turnedAway, onSample, onSettings, stepOf}
 use Rattle.rules.specs.History.{History, streak, complete, serving, climbed, historyStatus, historyShare, historyWatts, historyVars, historyReport}
 use Rattle.rules.specs.declared.Settings.{Settings}
@@ -33,7 +33,7 @@ use Rattle.claims.specs.Held.{RanOut, WaitFull}
 use Rattle.claims.specs.Sound.{Sound}
 use Rattle.claims.specs.TripAndReturn.{recordOf, Next, TripAndReturn, Demand2}
 use Rattle.laws.proofs.Bools.{both}
-use Rattle.laws.proofs.Accepted.{sheet-rows}
+use Rattle.laws.proofs.Limits.{LimitsIn, limits-in}
 use Rattle.laws.proofs.Trace.{service-status, service-is, status-is, next-is, shown-is}
 use Rattle.laws.proofs.Trip.{trip-law, return-law, return-even}
 
@@ -68,6 +68,14 @@ module _ (e : Equipment) (b : Board) (s : Settings) (x : Slice) where
       on-settings : (k : SettingsCheck) → (isAccepted k && sampleAccepted x) ≡ false → (cause : Refusal) × (onSettings e s x b k ≡ turnedAway b cause)
       on-settings SettingsCheck.Accepted r = on-sample (sampleCheck x) r
       on-settings (SettingsCheck.Refused cause line) r = (cause, refl)
+
+-- ---- no bit before any sample
+
+no-bits : (e : Equipment) (st : Settings) (i : ℕ) (ks : List Kind) → LimitsIn st i ks
+    → map (complete []) (limitRules e st i ks ++ (readyRule e st ∷ [])) ≡ map (λ (k : Kind). false) ks ++ (false ∷ [])
+unfolding streak
+no-bits e st i [] l = rw (lt-leb (max 1 (st .wait)) 0 (omega arith))
+no-bits e st i (k ∷ ks) l = ap₂ _∷_ (lt-leb (limitAt st i .clearing) 0 (omega (arith, l .0))) (no-bits e st (suc i) ks (l .1))
 
 -- ---- a list of calls, for an accepted sheet
 
@@ -122,22 +130,14 @@ module _ (e : Equipment) (st : Settings) where
   module _ (ok : settingsAccepted st ≡ true) where
     -- the fresh board's report: tripped, with all bits and numbers 0
     pub fresh-is : reportOf (historyReport e st []) ≡ freshReport
-    unfolding reportOf historyReport historyStatus historyShare historyWatts historyVars climbed streak
-    fresh-is =
-        let k = sheet-rows st ok in
-        rw (
-          lt-leb (limitAt st 0 .clearing) 0 (omega (arith, k .uv1 .second-low)),
-          lt-leb (limitAt st 1 .clearing) 0 (omega (arith, k .uv2 .second-low)),
-          lt-leb (limitAt st 2 .clearing) 0 (omega (arith, k .ov1 .second-low)),
-          lt-leb (limitAt st 3 .clearing) 0 (omega (arith, k .ov2 .second-low)),
-          lt-leb (limitAt st 4 .clearing) 0 (omega (arith, k .uf1 .second-low)),
-          lt-leb (limitAt st 5 .clearing) 0 (omega (arith, k .uf2 .second-low)),
-          lt-leb (limitAt st 6 .clearing) 0 (omega (arith, k .of1 .second-low)),
-          lt-leb (limitAt st 7 .clearing) 0 (omega (arith, k .of2 .second-low)),
-          lt-leb (max 1 (st .wait)) 0 (omega arith),
-          min-zero (st .ramp),
-          zero-div (st .ramp),
-        )
+    unfolding reportOf historyReport historyStatus historyShare historyWatts historyVars climbed
+    fresh-is = ap₂ shows-only (no-bits e st 0 kinds (limits-in st ok)) no-share
+      where
+        shows-only : List Bool → ℕ → Report
+        shows-only bits share = record { status = 0; bits = packedAfter 0 bits; share = share; watts = 0; vars = pos 0 }
+
+        no-share : 10000 * min (st .ramp) 0 / st .ramp ≡ 0
+        no-share = rw (min-zero (st .ramp), zero-div (st .ramp))
 
     pub run-is : (cs : List Call) → Under st cs → runOf (ruledBy e) cs ≡ at (heard cs)
     unfolding recordOf

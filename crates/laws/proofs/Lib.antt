@@ -1,6 +1,10 @@
 pub mod Bools
 pub mod Accepted
+pub mod Limits
 pub mod Counting
 pub mod Trace
 pub mod Trip
 pub mod Demand2
+pub mod Told
+pub mod Probes
+pub mod Ramps

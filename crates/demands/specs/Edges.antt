@@ -1,0 +1,80 @@
+-- Document 01, "Values at the edges": the starred cases, as rows of one table.
+-- Assumes nothing.
+use mathlib.Core.Path.{_≡_}
+use mathlib.Core.Bool.{Bool, true, false}
+use mathlib.Core.List.{List, [], _∷_}
+use Prim.Native.Nat.{ℕ}
+use lib.IntN.{ℤ, pos, negℤ}
+use Rattle.rules.specs.Sensing.{voltage}
+use Rattle.rules.specs.Samples.{Slice}
+use Rattle.rules.specs.Counters.{undervoltage, overvoltage, broken}
+use Rattle.rules.specs.Regions.{regionOf, ourEquipment}
+use Rattle.rules.specs.Curves.{curve, nameplate}
+use Rattle.rules.specs.declared.Point.{Point}
+use Rattle.rules.specs.declared.Region.{Region}
+use Rattle.rules.specs.declared.Region.the-variants.{Momentary, Cease}
+
+abbrev pub point : ℕ → ℤ → Point
+point v p = record { volts = v; power = p }
+
+-- the default curves of the sheet
+abbrev pub defaultVar : List Point
+defaultVar = point 9200 (pos 4400) ∷ point 9800 (pos 0) ∷ point 10200 (pos 0) ∷ point 10800 (negℤ (pos 4400)) ∷ []
+
+abbrev pub defaultWatt : List Point
+defaultWatt = point 10600 (pos 10000) ∷ point 11000 (pos 2000) ∷ []
+
+-- all three phases at one code, frequency 60000
+abbrev pub flat : ℕ → Slice
+flat code = code ∷ code ∷ code ∷ 60000 ∷ 1 ∷ 10000 ∷ 10000 ∷ []
+
+-- what a row says
+pub data Row : Type 0 where
+  gives : (code volts : ℕ) → Row
+  uv1Broken : (code : ℕ) → Bool → Row
+  ov2Broken : (code : ℕ) → Bool → Row
+  isIn : (code : ℕ) → Region → Row
+  varsAt : (volts : ℕ) → ℤ → Row
+  wattsAt : (volts : ℕ) → ℤ → Row
+  leaves : (vars : ℤ) → (watts : ℕ) → Row
+
+-- a row holds, by the definitions
+abbrev pub Holds : Row → Type 0
+Holds (gives code volts) = voltage code ≡ volts
+Holds (uv1Broken code b) = broken ourEquipment undervoltage 8800 (flat code) ≡ b
+Holds (ov2Broken code b) = broken ourEquipment overvoltage 12000 (flat code) ≡ b
+Holds (isIn code region) = regionOf ourEquipment (flat code) ≡ region
+Holds (varsAt volts vars) = curve defaultVar volts ≡ vars
+Holds (wattsAt volts watts) = curve defaultWatt volts ≡ watts
+Holds (leaves vars watts) = nameplate vars ≡ watts
+
+unfoldable pub rows : List Row
+rows =
+    gives 0 0
+    ∷ gives 1 316
+    ∷ gives 774 8797
+    ∷ uv1Broken 774 true
+    ∷ gives 775 8803
+    ∷ uv1Broken 775 false
+    ∷ gives 1440 12000
+    ∷ isIn 1440 Momentary
+    ∷ ov2Broken 1440 false
+    ∷ gives 1441 12004
+    ∷ isIn 1441 Cease
+    ∷ gives 4095 20236
+    ∷ varsAt 9500 (pos 2200)
+    ∷ varsAt 9201 (pos 4393)
+    ∷ varsAt 10201 (negℤ (pos 7))
+    ∷ wattsAt 10800 (pos 6000)
+    ∷ leaves (pos 4400) 8979
+    ∷ leaves (pos 10000) 0
+    ∷ leaves (negℤ (pos 10000)) 0
+    ∷ []
+
+abbrev pub AllHold : List Row → Type 0
+AllHold [] = Unit {0}
+AllHold (r ∷ rs) = Holds r × AllHold rs
+
+-- the one statement that covers the rows
+unfoldable pub EdgesHold : Type 0
+EdgesHold = AllHold rows
