@@ -10,19 +10,10 @@ use Rattle.rules.specs.Samples.{Slice}
 use Rattle.rules.specs.Counters.{undervoltage, overvoltage, broken}
 use Rattle.rules.specs.Regions.{regionOf, ourEquipment}
 use Rattle.rules.specs.Curves.{curve, nameplate}
-use Rattle.rules.specs.declared.Point.{Point}
+use Rattle.rules.specs.Defaults.{defaultSettings}
+use Rattle.rules.specs.declared.Settings.{Settings}
 use Rattle.rules.specs.declared.Region.{Region}
 use Rattle.rules.specs.declared.Region.the-variants.{Momentary, Cease}
-
-abbrev pub point : ℕ → ℤ → Point
-point v p = record { volts = v; power = p }
-
--- the default curves of the sheet
-abbrev pub defaultVar : List Point
-defaultVar = point 9200 (pos 4400) ∷ point 9800 (pos 0) ∷ point 10200 (pos 0) ∷ point 10800 (negℤ (pos 4400)) ∷ []
-
-abbrev pub defaultWatt : List Point
-defaultWatt = point 10600 (pos 10000) ∷ point 11000 (pos 2000) ∷ []
 
 -- all three phases at one code, frequency 60000
 abbrev pub flat : ℕ → Slice
@@ -44,8 +35,8 @@ Holds (gives code volts) = voltage code ≡ volts
 Holds (uv1Broken code b) = broken ourEquipment undervoltage 8800 (flat code) ≡ b
 Holds (ov2Broken code b) = broken ourEquipment overvoltage 12000 (flat code) ≡ b
 Holds (isIn code region) = regionOf ourEquipment (flat code) ≡ region
-Holds (varsAt volts vars) = curve defaultVar volts ≡ vars
-Holds (wattsAt volts watts) = curve defaultWatt volts ≡ watts
+Holds (varsAt volts vars) = curve (defaultSettings .var) volts ≡ vars
+Holds (wattsAt volts watts) = curve (defaultSettings .watt) volts ≡ watts
 Holds (leaves vars watts) = nameplate vars ≡ watts
 
 unfoldable pub rows : List Row

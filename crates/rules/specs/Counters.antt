@@ -1,9 +1,9 @@
 -- Document 01, "One sample", rules 1 and 2: the nine counters, each by one rule.
 -- Assumes nothing.
-use mathlib.Core.Bool.{Bool, true, false, cond}
+use mathlib.Core.Bool.{Bool, cond}
 use mathlib.Core.List.{List, [], _∷_, _++_}
 use Prim.Native.Nat.{ℕ, suc, min, max}
-use lib.Dec.{leb, ltb, eqb}
+use lib.Dec.{ltb, eqb}
 use Rattle.rules.specs.Tests.{all, within}
 use Rattle.rules.specs.Settings.{limitAt}
 use Rattle.rules.specs.Samples.{Slice, Equipment, frequency, permitted, lowest, highest}
@@ -14,7 +14,7 @@ pub record Rule : Type 0 where
   pub counts : Slice → Bool
   pub top : ℕ
 
--- "one more if .. now, up to the [top]; otherwise 0"
+-- one more if the sample counts, up to the top; otherwise 0. So a limit's counter, and so the ninth's consecutive steps
 abbrev pub counted : Slice → Rule → ℕ → ℕ
 counted x r n = cond (r .counts x) (min (r .top) (suc n)) 0
 

@@ -1,6 +1,6 @@
--- Document 01, rules 7 and 8: the curves and the nameplate.
+-- Document 01, "One sample", rules 7 and 8: the volt-var and volt-watt curves, and the nameplate's apparent power.
 -- Assumes nothing.
-use mathlib.Core.Bool.{Bool, cond}
+use mathlib.Core.Bool.{cond}
 use mathlib.Core.List.{List, [], _∷_}
 use Prim.Native.Nat.{ℕ, _+_, _-_, _*_}
 use lib.Dec.{leb}
@@ -23,6 +23,6 @@ unfoldable pub curve : List Point → ℕ → ℤ
 curve [] v = pos 0
 curve (a ∷ rest) v = curveFrom a rest v
 
--- rule 8, the nameplate: "the largest whole p with p² + vars² at most 100,000,000"
+-- rule 8, the active power that the nameplate leaves beside vars: "the largest whole p with p² + vars² at most 100,000,000"
 unfoldable pub nameplate : ℤ → ℕ
 nameplate vars = largest (λ p. leb (p * p + natAbs vars * natAbs vars) 100000000) 10000

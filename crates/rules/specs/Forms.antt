@@ -1,10 +1,9 @@
 -- Document 01, "The sheet" and "Image and program": the form of each line, by one template matcher for all of them.
 -- Assumes nothing.
-use mathlib.Core.Bool.{Bool, true, false, cond}
+use mathlib.Core.Bool.{cond}
 use mathlib.Core.List.{List, [], _∷_, map}
 use mathlib.Core.Option.{Option, none, some}
 use Prim.Native.Nat.{ℕ}
-use Prim.Native.String.{String}
 use lib.Dec.{eqb}
 use lib.IntN.{ℤ}
 use Rattle.rules.specs.Text.{bytes, Taken, takeNumber, takeSigned}

@@ -1,4 +1,5 @@
--- Document 01, "Two histories": what a list of accepted samples gives. It looks at no record and at no step.
+-- Document 01, "Two histories": what a list of accepted samples gives. It looks at no record and at no step; that the record
+-- gives the same is `demand2` of the crate `laws`.
 -- Assumes nothing.
 use mathlib.Core.Bool.{Bool, true, false, cond}
 use mathlib.Core.List.{List, [], _∷_, map}
@@ -13,7 +14,7 @@ use Rattle.rules.specs.Service.{serves, statusOf, shareOf, varsOf, watts
 use Rattle.rules.specs.Reports.{Items}
 use Rattle.rules.specs.declared.Settings.{Settings}
 
--- accepted samples, the newest first
+-- the accepted samples of a list of calls, the newest first
 abbrev pub History : Type 0
 History = List Slice
 

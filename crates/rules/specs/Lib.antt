@@ -15,3 +15,4 @@ pub mod Text
 pub mod Forms
 pub mod Sheets
 pub mod Transcripts
+pub mod Defaults

@@ -1,7 +1,7 @@
--- Document 01, "One sample": the board record, how a lent one is read, and what a step makes of it.
+-- Document 01, "One sample" and "Turned-away input": the board record, how a lent one is read, and what a step makes of it.
 -- Assumes nothing.
-use mathlib.Core.Bool.{Bool, true, false, cond}
-use mathlib.Core.List.{List, [], _∷_, map}
+use mathlib.Core.Bool.{Bool, cond}
+use mathlib.Core.List.{List, [], _∷_}
 use Prim.Native.Nat.{ℕ, min}
 use lib.Dec.{eqb}
 use lib.IntN.{pos}
@@ -35,7 +35,8 @@ each f (r ∷ rs) (n ∷ ns) = f r n ∷ each f rs ns
 abbrev pub capped : Rule → ℕ → ℕ
 capped r n = min (r .top) n
 
--- "an unknown status as tripped, a tripped board's ramp count as 0, watts above 10000 as 10000"
+-- "an unknown status as tripped, a tripped board's ramp count as 0, watts above 10000 as 10000"; the base rules look at its
+-- counters, service and ramp alone
 unfoldable pub readAs : Equipment → Settings → Board → Board
 readAs e st b =
     record {

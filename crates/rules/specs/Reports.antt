@@ -1,6 +1,6 @@
--- Document 01, "One sample" and "Image and program": what a report holds.
+-- Document 01, "Image and program" and "Two histories": what a report holds.
 -- Assumes nothing.
-use mathlib.Core.Bool.{Bool, true, false, cond}
+use mathlib.Core.Bool.{Bool, cond}
 use mathlib.Core.List.{List, [], _∷_}
 use Prim.Native.Nat.{ℕ, _+_, _*_}
 use lib.IntN.{ℤ}

@@ -1,6 +1,7 @@
--- Document 01, "One sample": the seven numbers of a slice, and refusals 8, 4, 5, 6 and 7 in their order.
+-- Document 01, "One sample", "Sensing" and "Turned-away input": the seven numbers of a slice, refusals 8, 4, 5, 6 and 7 in
+-- their order, and the three voltages.
 -- Assumes nothing.
-use mathlib.Core.Bool.{Bool, true, false, cond}
+use mathlib.Core.Bool.{Bool, true, false}
 use mathlib.Core.List.{List, [], _∷_}
 use Prim.Native.Nat.{ℕ, _+_, _/_, min, max}
 use lib.Dec.{leb, eqb}
@@ -59,7 +60,8 @@ sampleAccepted x = isAccepted (sampleCheck x)
 
 -- ---- what the board makes of the codes
 
--- what a board is made with: the voltage of a code, and the operating region of a voltage
+-- what a board is made with: the voltage of a code, and the operating region of a voltage. The rules are said for any, since
+-- makers deliver sensing tables and machines are certified to other categories; document 01's is `ourEquipment`.
 pub record Equipment : Type 0 where
   pub sensing : ℕ → ℕ
   pub region : ℕ → Region

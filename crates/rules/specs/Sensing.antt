@@ -15,10 +15,11 @@ largest test (suc bound) = cond (test (suc bound)) (suc bound) (largest test bou
 abbrev pub lastCode : ℕ
 lastCode = 4095
 
--- "The largest whole number whose square is at most code × 100,000." No code up to 4,095 has one above 20236: `voltage-root` of `demands` shows it.
+-- "The largest whole number whose square is at most code × 100,000", for codes 0 to 4095: its square is at most code × 100,000 and the
+-- next number's is not, which `voltage-root` of the crate `roots` shows. Above 4095 it is not used: such a code is refused.
 unfoldable pub voltage : ℕ → ℕ
 voltage code = largest (λ v. leb (v * v) (code * 100000)) 20236
 
--- a code above the table is refused with 4 and never given the last entry
+-- "Turned-away input" 4, and "Errors close at hand": a code above the table is refused, never given the last entry
 unfoldable pub sensed : ℕ → Sensed
 sensed code = cond (leb code lastCode) (Sensed.Volts (voltage code)) (Sensed.Refused Code)

@@ -26,15 +26,15 @@ abbrev pub statusOf : Bool → Region → Bool → ℕ
 statusOf false region full = 0  -- tripped
 statusOf true Continuous false = 1  -- entering
 statusOf true Continuous true = 2  -- continuous
-statusOf true Mandatory full = 3
-statusOf true Momentary full = 4
-statusOf true Cease full = 5
+statusOf true Mandatory full = 3  -- mandatory operation
+statusOf true Momentary full = 4  -- momentary cessation
+statusOf true Cease full = 5  -- cease to energize
 
 -- in service; an unknown status is read as tripped
 abbrev pub inService : ℕ → Bool
 inService status = within 1 5 status
 
--- statuses 1 to 3 give power; in momentary cessation and cease to energize there is none
+-- statuses 1 to 3 give power; tripped, in momentary cessation and where it ceases to energize there is none
 abbrev pub exports : ℕ → Bool
 exports status = within 1 3 status
 

@@ -1,4 +1,4 @@
--- Document 01, "The sheet": the allowed values, and refusals 2 and 3 of settings in sheet order.
+-- Document 01, "The sheet" and "Turned-away input": the allowed values, and refusals 2 and 3 of settings in sheet order.
 -- Assumes nothing.
 use mathlib.Core.Bool.{Bool, true, false, cond, _&&_}
 use mathlib.Core.List.{List, [], _∷_, map}
@@ -66,17 +66,17 @@ rising [] = true
 rising (p ∷ []) = true
 rising (p ∷ q ∷ ps) = ltZ (p .first) (q .first) && rising (q ∷ ps)
 
--- line n for 2, then for 3, and where it has neither, what comes after it
-abbrev pub lineCheck : ℕ → Row → List Pair → SettingsCheck → SettingsCheck
-lineCheck n r ps next = cond (all (map (inRow r) ps)) (cond (rising ps) next (SettingsCheck.Refused Rise n)) (SettingsCheck.Refused Range n)
+-- a line is checked for 2, then for 3; where it has neither, what comes after it
+abbrev pub lineCheck : {A : Type 0} → Row → List Pair → A → (Refusal → A) → A
+lineCheck r ps next refuse = cond (all (map (inRow r) ps)) (cond (rising ps) next (refuse Rise)) (refuse Range)
 
 -- the lines from line n on, in order, each by its row
 unfoldable pub checkFrom : ℕ → List Row → List (List Pair) → SettingsCheck
 checkFrom n [] lines = SettingsCheck.Accepted
 checkFrom n (r ∷ rs) [] = SettingsCheck.Accepted
-checkFrom n (r ∷ rs) (ps ∷ lines) = lineCheck n r ps (checkFrom (suc n) rs lines)
+checkFrom n (r ∷ rs) (ps ∷ lines) = lineCheck r ps (checkFrom (suc n) rs lines) (λ cause. SettingsCheck.Refused cause n)
 
--- ---- the thirteen lines of settings
+-- ---- the thirteen lines of settings (eight limits, four and two points: the lengths are those of the declared arrays)
 
 abbrev pub noLimit : Limit
 noLimit = record { level = 0; clearing = 0 }

@@ -1,13 +1,12 @@
 -- Document 01, "The sheet" and "Turned-away input": reading a sheet.
 -- Assumes nothing.
-use mathlib.Core.Bool.{Bool, true, false, cond}
+use mathlib.Core.Bool.{cond}
 use mathlib.Core.List.{List, [], _∷_, _++_, map}
 use mathlib.Core.Option.{Option, none, some}
 use Prim.Native.Nat.{ℕ, suc, _+_}
 use lib.IntN.{ℤ, pos, natAbs}
 use lib.ListN.{length, getD, drop}
-use Rattle.rules.specs.Tests.{all}
-use Rattle.rules.specs.Settings.{Pair, pair, Row, rows, inRow, rising}
+use Rattle.rules.specs.Settings.{Pair, pair, Row, rows, lineCheck}
 use Rattle.rules.specs.Text.{firstLine, hasFeed, afterLine}
 use Rattle.rules.specs.Forms.{sheetForms, numbersOf}
 use Rattle.rules.specs.declared.Limit.{Limit}
@@ -15,7 +14,7 @@ use Rattle.rules.specs.declared.Span.{Span}
 use Rattle.rules.specs.declared.Point.{Point}
 use Rattle.rules.specs.declared.Settings.{Settings}
 use Rattle.rules.specs.declared.Refusal.{Refusal}
-use Rattle.rules.specs.declared.Refusal.the-variants.{Form, Range, Rise}
+use Rattle.rules.specs.declared.Refusal.the-variants.{Form}
 use Rattle.rules.specs.declared.SettingsCheck.{SettingsCheck}
 
 -- the numbers of a line, two by two
@@ -62,16 +61,15 @@ pub record SheetReading : Type 0 where
 abbrev pub refusedAt : Refusal → ℕ → ℕ → SheetReading
 refusedAt cause line start = record { check = SettingsCheck.Refused cause line; settings = settingsOf []; start = start }
 
--- a line whose numbers are read: for 2, then for 3, and where it has neither, the lines after it
+-- a line that has its form is checked for 2 and 3, and where it has neither, the lines after it
 abbrev pub onNumbers : ℕ → ℕ → Row → Option (List ℤ) → (List Pair → SheetReading) → SheetReading
 onNumbers line start r none next = refusedAt Form line start
-onNumbers line start r (some ns) next =
-    cond (all (map (inRow r) (pairs ns))) (cond (rising (pairs ns)) (next (pairs ns)) (refusedAt Rise line start)) (refusedAt Range line start)
+onNumbers line start r (some ns) next = lineCheck r (pairs ns) (next (pairs ns)) (λ cause. refusedAt cause line start)
 
 -- the lines of these rows and forms, from line n, which begins at `start`, on; `read` are the lines before it
 unfoldable pub readFrom : ℕ → ℕ → List (List Pair) → List Row → List (List ℕ) → List ℕ → SheetReading
 readFrom n start read [] forms s = record { check = SettingsCheck.Accepted; settings = settingsOf read; start = start }
-readFrom n start read (r ∷ rs) [] s = record { check = SettingsCheck.Accepted; settings = settingsOf read; start = start }
+readFrom n start read (r ∷ rs) [] s = refusedAt Form n start
 readFrom n start read (r ∷ rs) (form ∷ forms) s =
     cond (hasFeed s)
     (onNumbers n start r (numbersOf form (firstLine s))
@@ -82,7 +80,7 @@ readFrom n start read (r ∷ rs) (form ∷ forms) s =
 unfoldable pub readSheet : List ℕ → SheetReading
 readSheet s = readFrom 1 0 [] rows sheetForms s
 
--- the part of the caller's bytes that is handed back
+-- the part of the caller's bytes that is handed back: the refused line without its line feed, or what follows an accepted sheet
 abbrev pub partOf : SettingsCheck → List ℕ → List ℕ
 partOf SettingsCheck.Accepted rest = rest
 partOf (SettingsCheck.Refused cause line) rest = firstLine rest

@@ -1,6 +1,6 @@
--- Tests on numbers and lists, as the rules below use them.
+-- Yes-or-no tests on numbers and lists, as the rules use them.
 -- Assumes nothing.
-use mathlib.Core.Bool.{Bool, true, false, cond, _&&_, _||_}
+use mathlib.Core.Bool.{Bool, true, false, _&&_, _||_}
 use mathlib.Core.List.{List, [], _∷_}
 use Prim.Native.Nat.{ℕ}
 use lib.Dec.{leb}

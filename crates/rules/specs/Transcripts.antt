@@ -1,6 +1,6 @@
--- Document 01, "Image and program": what `board` writes for a whole input.
+-- Document 01, "Image and program" and "Turned-away input": what `board` writes for a whole input.
 -- Assumes nothing.
-use mathlib.Core.Bool.{Bool, true, false, cond}
+use mathlib.Core.Bool.{cond}
 use mathlib.Core.List.{List, [], _∷_, _++_, map}
 use mathlib.Core.Option.{Option, none, some}
 use Prim.Native.Nat.{ℕ, zero, suc, _+_, _/_, _%_}
@@ -9,8 +9,7 @@ use lib.Dec.{eqb}
 use lib.IntN.{ℤ, natAbs}
 use lib.ListN.{take, drop, getD}
 use Rattle.rules.specs.Refusals.{refusalNumber}
-use Rattle.rules.specs.Samples.{Slice, Equipment}
-use Rattle.rules.specs.Reports.{Items}
+use Rattle.rules.specs.Samples.{Equipment}
 use Rattle.rules.specs.Records.{fresh, stepOf}
 use Rattle.rules.specs.Text.{bytes, feed, decimal, signedDecimal}
 use Rattle.rules.specs.Forms.{sampleForm, numbersOf}
@@ -88,7 +87,7 @@ answersFrom e st b n (l ∷ ls) = answerLine n (lineStep e st b l .answer) ++ an
 
 -- ---- the whole input
 
--- "Its input ends at byte 1,000,000,000,000 at the latest."
+-- "Its input ends at byte 1,000,000,000,000 at the latest": what stands there is treated as an input that ends
 abbrev pub inputEnd : ℕ
 inputEnd = 1000000000000
 

@@ -1,4 +1,4 @@
-// The declared types of the interface board. What they mean stands in specs/, section by section of document 01.
+// The declared types of the interface board. What they mean stands in specs/, in the order of document 01.
 
 // A trip line: a voltage or frequency limit, and its clearing time in steps.
 pub struct Limit {
@@ -18,7 +18,7 @@ pub struct Point {
     pub power: i32,
 }
 
-// A sheet: the eight trip lines in sheet order, the enter-service lines, and the two curves.
+// A sheet: the eight trip lines in sheet order, the enter-service lines with return wait and ramp length, and the two curves.
 pub struct Settings {
     pub trip: [Limit; 8],
     pub volts: Span,
@@ -29,7 +29,8 @@ pub struct Settings {
     pub watt: [Point; 2],
 }
 
-// The board record that a host keeps and lends: nine counters, the limits' in sheet order and then the ninth.
+// The board record that a host keeps and lends: its nine counters are the limits' in sheet order and then the ninth, and
+// `ramp` is the ramp count.
 pub struct Board {
     pub status: u8,
     pub counters: [u32; 9],
@@ -89,6 +90,12 @@ pub enum Sensed {
 // What a step answers.
 pub enum Answer {
     Reported(Report),
+    Refused(Refusal),
+}
+
+// What saving an image answers.
+pub enum Saved {
+    Written,
     Refused(Refusal),
 }
 
