@@ -2,6 +2,7 @@
 ghost use mathlib.Core.Path.{_≡_};
 ghost use mathlib.Core.List.{map};
 ghost use Prim.Native.Nat.{_<_, _+_};
+ghost use lib.Signed.{ltZ};
 ghost use Rattle.rules.specs.Tests.{all};
 ghost use Rattle.rules.specs.Settings.{inRow, rising, settingsCheck};
 ghost use Rattle.settings.specs.Rows.{rowAt};
@@ -10,6 +11,7 @@ ghost use Rattle.settings.specs.Lines.{lineAt};
 mod ranges;
 mod lines;
 
+use lines::Pair;
 use lines::pair_at;
 use lines::pairs_in;
 use ranges::in_row;
@@ -26,12 +28,19 @@ fn in_range(s: Settings, line: usize) -> bool
     let mut k = 0;
     while k < count {
         let p = pair_at(s, line, k);
-        if !in_row(line, p.first, p.second) {
+        if !in_row(line, p) {
             return false;
         }
         k += 1;
     }
     true
+}
+
+// Whether the first number rises strictly from one pair to the next.
+fn below(left: Pair, right: Pair) -> bool
+    ensures { λ r. ⌜ r ≡ ltZ (left .first) (right .first) ⌝ }
+{
+    left.first < right.first
 }
 
 // Whether the first numbers along a line rise strictly.
@@ -44,7 +53,7 @@ fn rises(s: Settings, line: usize) -> bool
     while k < last {
         let left = pair_at(s, line, k);
         let right = pair_at(s, line, k + 1);
-        if right.first <= left.first {
+        if !below(left, right) {
             return false;
         }
         k += 1;

@@ -3,8 +3,11 @@ ghost use mathlib.Core.Path.{_≡_};
 ghost use mathlib.Core.Bool.{_&&_};
 ghost use Prim.Native.Nat.{_<_};
 ghost use lib.Signed.{leZ};
-ghost use Rattle.rules.specs.Settings.{pair, inRow};
+ghost use Rattle.rules.specs.Settings.{inRow};
 ghost use Rattle.settings.specs.Rows.{rowOf, rowAt};
+ghost use Rattle.settings.specs.Lines.{pairOf};
+
+use crate::lines::Pair;
 
 // Lowest and highest of a line's first number, then of its second, ends included.
 pub struct Row(pub i64, pub i64, pub i64, pub i64);
@@ -40,11 +43,11 @@ fn within(low: i64, high: i64, n: i64) -> bool
     low <= n && n <= high
 }
 
-// Whether two numbers lie in the row of a line, counted from 0.
-pub fn in_row(line: usize, first: i64, second: i64) -> bool
+// Whether a pair lies in the row of a line, counted from 0.
+pub fn in_row(line: usize, p: Pair) -> bool
     requires { ⌜ line < 13 ⌝ }
-    ensures { λ r. ⌜ r ≡ inRow (rowAt line) (pair first second) ⌝ }
+    ensures { λ r. ⌜ r ≡ inRow (rowAt line) (pairOf p) ⌝ }
 {
     let row = row_at(line);
-    within(row.0, row.1, first) && within(row.2, row.3, second)
+    within(row.0, row.1, p.first) && within(row.2, row.3, p.second)
 }

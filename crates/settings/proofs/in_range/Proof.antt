@@ -12,39 +12,39 @@ Inv-loop s line count k₀ k = ?
 abbrev μ-loop : tie.MeasureT-loop
 μ-loop s line count k₀ k = ?
 
--- src/lib.rt:25:9
+-- src/lib.rt:27:9
 pairs-in-requires : tie.Need-pairs-in-requires Inv-loop μ-loop
 pairs-in-requires c κs = ?
 
--- src/lib.rt:27:5
+-- src/lib.rt:29:5
 loop-holds : tie.Need-loop-holds Inv-loop μ-loop
 loop-holds c = ?
 
--- src/lib.rt:28:13
+-- src/lib.rt:30:13
 pair-at-requires : tie.Need-pair-at-requires Inv-loop μ-loop
 pair-at-requires c κs = ?
 
--- src/lib.rt:29:13
+-- src/lib.rt:31:13
 in-row-requires : tie.Need-in-row-requires Inv-loop μ-loop
 in-row-requires c κs = ?
 
--- src/lib.rt:30:13
+-- src/lib.rt:32:13
 returns : tie.Need-returns Inv-loop μ-loop
 returns c = ?
 
--- src/lib.rt:32:9
+-- src/lib.rt:34:9
 add-k : tie.Need-add-k Inv-loop μ-loop
 add-k c = ?
 
--- src/lib.rt:27:5
+-- src/lib.rt:29:5
 loop-less : tie.Need-loop-less Inv-loop μ-loop
 loop-less c = ?
 
--- src/lib.rt:27:5
+-- src/lib.rt:29:5
 loop-again : tie.Need-loop-again Inv-loop μ-loop
 loop-again c = ?
 
--- src/lib.rt:21:1
+-- src/lib.rt:23:1
 returns-2 : tie.Need-returns-2 Inv-loop μ-loop
 returns-2 c = ?
 

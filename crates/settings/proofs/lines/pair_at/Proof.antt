@@ -1,3 +1,13 @@
+-- `settings::lines::pair_at` meets its contract: a line below 8 is a limit's, and each other line has an arm.
+-- Assumes nothing.
+use mathlib.Core.Path.{_≡_, _∙_, sym, ap}
+use Prim.Native.Nat.{_<_}
+use native.Mathlib.Omega.{arith}
+use lib.IntN.{pos}
+use lib.ListN.{List·getD-map}
+use Rattle.rules.specs.Settings.{linesOf, pointPair}
+use Rattle.settings.specs.Lines.{pairsIn}
+use Rattle.settings.proofs.Sheet.{trip-at, first-pair}
 use borrow.Author.Needs.{needs}
 use Rattle.settings.proofs.lines.pair_at.Statement.{statement}
 use Rattle.settings.proofs.lines.pair_at.Tie as tie
@@ -6,77 +16,89 @@ use Rattle.settings.proofs.lines.pair_at.Lts as lts
 use Rattle.settings.proofs.lines.counts.Reads as counts-reads
 use Rattle.settings.proofs.lines.point.Reads as point-reads
 
--- src/lines.rt:64:21
 mul-limit : tie.Need-mul-limit
 mul-limit c = search needs
 
--- src/lines.rt:64:21
 element-copy-out-limit : tie.Need-element-copy-out-limit
 element-copy-out-limit c = search needs
 
--- src/lines.rt:65:9
 counts-requires : tie.Need-counts-requires
 counts-requires c κs = search needs
 
--- src/lines.rt:65:9
 returns : tie.Need-returns
-returns c = ?
+returns c =
+    let z = c .before .before .before in
+    let one = first-pair (z .args .line) (z .args .k) (omega arith) (z .pre .1) in
+    rw (c .counts .ensures, trip-at (z .args .t1) (z .args .line) (omega arith), one)
 
--- src/lines.rt:68:14
 counts-requires-2 : tie.Need-counts-requires-2
 counts-requires-2 c κs = search needs
 
--- src/lines.rt:69:14
 counts-requires-3 : tie.Need-counts-requires-3
 counts-requires-3 c κs = search needs
 
--- src/lines.rt:70:15
 counts-requires-4 : tie.Need-counts-requires-4
 counts-requires-4 c κs = search needs
 
--- src/lines.rt:72:21
-mul-p : tie.Need-mul-p
-mul-p c = ?
-
--- src/lines.rt:72:21
 element-copy-out-p : tie.Need-element-copy-out-p
-element-copy-out-p c = ?
+element-copy-out-p c =
+    let var : c .before .before .args .line ≡ 11 = omega arith in
+    rw var at (c .before .before .pre .1)
 
--- src/lines.rt:73:13
+mul-p : tie.Need-mul-p
+mul-p c = let few = element-copy-out-p c in search needs
+
 point-requires : tie.Need-point-requires
 point-requires c κs = search needs
 
--- src/lines.rt:76:21
-mul-p-2 : tie.Need-mul-p-2
-mul-p-2 c = ?
-
--- src/lines.rt:76:21
 element-copy-out-p-2 : tie.Need-element-copy-out-p-2
-element-copy-out-p-2 c = ?
+element-copy-out-p-2 c =
+    let watt : c .before .before .args .line ≡ 12 = omega arith in
+    rw watt at (c .before .before .pre .1)
 
--- src/lines.rt:77:13
+mul-p-2 : tie.Need-mul-p-2
+mul-p-2 c = let few = element-copy-out-p-2 c in search needs
+
 point-requires-2 : tie.Need-point-requires-2
 point-requires-2 c κs = search needs
 
--- src/lines.rt:59:1
 returns-2 : tie.Need-returns-2
-returns-2 c = ?
+unfolding linesOf
+returns-2 c =
+    let z = c .before .before .before in
+    let one = first-pair (z .args .line) (z .args .k) (omega arith) (z .pre .1) in
+    let at : z .args .line ≡ 8 = omega arith in
+    rw (c .counts2 .ensures, at, one)
 
--- src/lines.rt:59:1
 returns-3 : tie.Need-returns-3
-returns-3 c = ?
+unfolding linesOf
+returns-3 c =
+    let z = c .before .before .before in
+    let one = first-pair (z .args .line) (z .args .k) (omega arith) (z .pre .1) in
+    let at : z .args .line ≡ 9 = omega arith in
+    rw (c .counts3 .ensures, at, one)
 
--- src/lines.rt:59:1
 returns-4 : tie.Need-returns-4
-returns-4 c = ?
+unfolding linesOf
+returns-4 c =
+    let z = c .before .before .before in
+    let one = first-pair (z .args .line) (z .args .k) (omega arith) (z .pre .1) in
+    let at : z .args .line ≡ 10 = omega arith in
+    rw (c .counts4 .ensures, at, one)
 
--- src/lines.rt:59:1
 returns-5 : tie.Need-returns-5
-returns-5 c = ?
+unfolding linesOf
+returns-5 c =
+    let z = c .before .before .before .before in
+    let at : z .args .line ≡ 11 = omega arith in
+    rw (c .point .ensures, at) (sym (List·getD-map pointPair (z .args .t1 .var) (z .args .k) (record { volts = 0; power = pos 0 })))
 
--- src/lines.rt:59:1
 returns-6 : tie.Need-returns-6
-returns-6 c = ?
+unfolding linesOf
+returns-6 c =
+    let z = c .before .before .before .before in
+    let at : z .args .line ≡ 12 = omega arith in
+    rw (c .point2 .ensures, at) (sym (List·getD-map pointPair (z .args .t1 .watt) (z .args .k) (record { volts = 0; power = pos 0 })))
 
 pub pair-at-spec : {M : Type 1} → statement M
 pair-at-spec =

@@ -1,3 +1,8 @@
+-- `settings::lines::point` meets its contract: a struct's signed field is read back from its bits.
+-- Assumes nothing.
+use native.Mathlib.Omega.{arith}
+use mir.Syntax.{w32, w64}
+use Rattle.settings.proofs.Words.{word}
 use borrow.Author.Needs.{needs}
 use Rattle.settings.proofs.lines.point.Statement.{statement}
 use Rattle.settings.proofs.lines.point.Tie as tie
@@ -6,17 +11,16 @@ use Rattle.settings.proofs.lines.point.Lts as lts
 use Rattle.settings.proofs.lines.signed.Reads as signed-reads
 use Rattle.settings.proofs.lines.unsigned.Reads as unsigned-reads
 
--- src/lines.rt:42:16
 unsigned-requires : tie.Need-unsigned-requires
 unsigned-requires c κs = search needs
 
--- src/lines.rt:43:17
 signed-requires : tie.Need-signed-requires
 signed-requires c κs = search needs
 
--- src/lines.rt:38:1
 returns : tie.Need-returns
-returns c = ?
+returns c =
+    let power = word w32 {z = c .before .before .before .args .p .power} (omega arith) in
+    rw (word w64 (c .before .before .unsigned .ok), word w64 (c .signed .ok), c .before .before .unsigned .ensures, c .signed .ensures, power)
 
 pub point-spec : {M : Type 1} → statement M
 point-spec = tie.close (tie.spec unsigned-requires signed-requires returns)

@@ -1,20 +1,28 @@
+-- `settings::ranges::row_at` meets its contract: the code's table is the table of allowed values, row by row.
+-- Assumes nothing.
+use mathlib.Core.Path.{_≡_, refl, sym, ap, _∙_}
+use mathlib.Core.List.{List, map}
+use lib.IntN.{pos}
+use lib.ListN.{getD, List·getD-map}
 use borrow.Author.Needs.{needs}
+use Rattle.rules.specs.Settings.{rows}
+use Rattle.rules.specs.Settings as rules
+use Rattle.settings.specs.declared.ranges.Row.{Row}
+use Rattle.settings.specs.Rows.{rowOf, rowAt}
 use Rattle.settings.proofs.ranges.row_at.Statement.{statement}
 use Rattle.settings.proofs.ranges.row_at.Tie as tie
 use Rattle.settings.proofs.ranges.row_at.Reads as reads
 use Rattle.settings.proofs.ranges.row_at.Lts as lts
 
--- src/ranges.rt:34:5
 mul-result : tie.Need-mul-result
 mul-result c = search needs
 
--- src/ranges.rt:34:5
 array-copy-out-result : tie.Need-array-copy-out-result
 array-copy-out-result c = search needs
 
--- src/ranges.rt:30:1
 returns : tie.Need-returns
-returns c = ?
+unfolding rows
+returns c = rw (← List·getD-map rowOf)
 
 pub row-at-spec : {M : Type 1} → statement M
 row-at-spec = tie.close (tie.spec mul-result array-copy-out-result returns)
