@@ -1,11 +1,13 @@
 -- The lines of settings at an arbitrary place: a trip line is its limit's, and how many pairs a line has.
 -- Assumes nothing.
 use mathlib.Core.Path.{_≡_, refl, sym, ap, _∙_}
+use mathlib.Core.Bool.{Bool, true, false, cond}
 use mathlib.Core.List.{List, [], _∷_, _++_, map}
-use Prim.Native.Nat.{ℕ, zero, suc, _+_, _<_}
+use Prim.Native.Nat.{ℕ, zero, suc, _+_, _<_, _≤_}
 use native.Mathlib.Nat.{not-suc-le-zero, le-of-suc-le-suc, add-zero, zero-add, add-suc, suc-add}
 use native.Mathlib.Omega.{arith}
 use borrow.Author.Tests.{ne-eqb}
+use lib.Dec.{eqb}
 use lib.ListN.{length, getD, drop, length-map, List·getD-map}
 use Rattle.rules.specs.Settings.{linesOf, tripLine, pointPair}
 use Rattle.rules.specs.declared.Settings.{Settings}
@@ -30,6 +32,18 @@ single i h g = simp (ne-eqb i 11 h, ne-eqb i 12 g)
 
 pub first-pair : (i k : ℕ) → i < 11 → k < pairsIn i → k ≡ 0
 first-pair i k h g = omega (arith, single i (λ e. omega arith) (λ e. omega arith))
+
+pub some-pair : (i : ℕ) → 1 ≤ pairsIn i
+some-pair i = by (eqb i 11) (eqb i 12)
+  where
+    by : (a b : Bool) → 1 ≤ cond a 4 (cond b 2 1)
+    by true b = omega arith
+    by false true = omega arith
+    by false false = omega arith
+
+-- what owning an array of structs tells of its list
+pub unmapped : (X Y : Type 0) (l : List X) (f : X → Y) (n : ℕ) → length (map f l) ≡ n → length l ≡ n
+unmapped X Y l f n e = sym (length-map l f) ∙ e
 
 module _ (s : Settings) (four : length (s .var) ≡ 4) (two : length (s .watt) ≡ 2) where
   lengths : map length (linesOf s) ≡ counted pairsIn 0 13

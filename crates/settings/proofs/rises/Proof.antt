@@ -1,3 +1,15 @@
+-- `settings::rises` meets its contract: the pairs from k on rise where the line does.
+-- Assumes nothing.
+use mathlib.Core.Path.{_≡_, refl, _∙_}
+use Prim.Native.Nat.{_-_, _≤_}
+use native.Mathlib.Omega.{arith}
+use lib.ListN.{length, drop}
+use borrow.Author.Needs.{needs}
+use borrow.Author.Tests.{not-true, not-false}
+use Rattle.rules.specs.Settings.{rising}
+use Rattle.settings.specs.Lines.{lineAt, pairsIn}
+use Rattle.settings.proofs.Sheet.{some-pair, pairs-at, unmapped}
+use Rattle.settings.proofs.Steps.{rise-more, rise-end}
 use Rattle.settings.proofs.rises.Statement.{statement}
 use Rattle.settings.proofs.rises.Tie as tie
 use Rattle.settings.proofs.rises.Reads as reads
@@ -7,58 +19,70 @@ use Rattle.settings.proofs.lines.pair_at.Reads as pair-at-reads
 use Rattle.settings.proofs.lines.pairs_in.Reads as pairs-in-reads
 
 abbrev Inv-loop : tie.InvT-loop
-Inv-loop s line last k₀ k = ?
+Inv-loop s line last k₀ k = (k ≤ last) × (rising (lineAt s line) ≡ rising (drop k (lineAt s line)))
 
 abbrev μ-loop : tie.MeasureT-loop
-μ-loop s line last k₀ k = ?
+μ-loop s line last k₀ k = last - k
 
--- src/lib.rt:51:16
+long : (c : tie.Start Inv-loop μ-loop) → length (lineAt (c .args .s) (c .args .line)) ≡ pairsIn (c .args .line)
+long c = pairs-at (c .args .s) (search (needs, unmapped)) (search (needs, unmapped)) (c .args .line) (c .pre)
+
 pairs-in-requires : tie.Need-pairs-in-requires Inv-loop μ-loop
-pairs-in-requires c κs = ?
+pairs-in-requires c κs = search needs
 
--- src/lib.rt:51:16
 sub-last : tie.Need-sub-last Inv-loop μ-loop
-sub-last c = ?
+sub-last c = omega (arith, c .pairs-in .ensures, some-pair (c .before .args .line))
 
--- src/lib.rt:53:5
 loop-holds : tie.Need-loop-holds Inv-loop μ-loop
-loop-holds c = ?
+loop-holds c = (omega arith, refl)
 
--- src/lib.rt:54:13
 pair-at-requires : tie.Need-pair-at-requires Inv-loop μ-loop
-pair-at-requires c κs = ?
+pair-at-requires c κs =
+    let count = c .before .before .pairs-in .ensures in
+    (c .before .before .before .pre, omega arith)
 
--- src/lib.rt:55:38
 add-pair-at : tie.Need-add-pair-at Inv-loop μ-loop
-add-pair-at c = ?
+add-pair-at c = search needs
 
--- src/lib.rt:55:13
 pair-at-requires-2 : tie.Need-pair-at-requires-2 Inv-loop μ-loop
-pair-at-requires-2 c κs = ?
+pair-at-requires-2 c κs =
+    let count = c .before .before .before .pairs-in .ensures in
+    (c .before .before .before .before .pre, omega arith)
 
--- src/lib.rt:56:13
 below-requires : tie.Need-below-requires Inv-loop μ-loop
-below-requires c κs = ?
+below-requires c κs = search needs
 
--- src/lib.rt:57:13
 returns : tie.Need-returns Inv-loop μ-loop
-returns c = ?
+returns c =
+    let at = c .before .before .before .before .before in
+    let z = at .before .before in
+    let l = lineAt (z .args .s) (z .args .line) in
+    let left = c .before .before .before .pair-at .ensures in
+    let right = c .before .before .pair-at2 .ensures in
+    let more = rise-more l (at .loop .k) (omega (arith, long z, at .before .pairs-in .ensures)) in
+    rw (at .loop .inv .1, more, ← left, ← right, ← c .before .below .ensures, not-true (c .before .below .result) (c .if1 .taken))
 
--- src/lib.rt:59:9
 add-k : tie.Need-add-k Inv-loop μ-loop
-add-k c = ?
+add-k c = search needs
 
--- src/lib.rt:53:5
 loop-less : tie.Need-loop-less Inv-loop μ-loop
-loop-less c = ?
+loop-less c = search needs
 
--- src/lib.rt:53:5
 loop-again : tie.Need-loop-again Inv-loop μ-loop
-loop-again c = ?
+loop-again c =
+    let at = c .before .before .before .before .before in
+    let z = at .before .before in
+    let l = lineAt (z .args .s) (z .args .line) in
+    let left = c .before .before .before .pair-at .ensures in
+    let right = c .before .before .pair-at2 .ensures in
+    let more = rise-more l (at .loop .k) (omega (arith, long z, at .before .pairs-in .ensures)) in
+    (omega arith, at .loop .inv .1 ∙ rw (more, ← left, ← right, ← c .before .below .ensures, not-false (c .before .below .result) (c .if1 .left)))
 
--- src/lib.rt:47:1
 returns-2 : tie.Need-returns-2 Inv-loop μ-loop
-returns-2 c = ?
+returns-2 c =
+    let at = c .before in
+    let z = at .before .before in
+    rw (at .loop .inv .1, rise-end (lineAt (z .args .s) (z .args .line)) (at .loop .k) (omega (arith, long z, at .before .pairs-in .ensures)))
 
 pub rises-spec : {M : Type 1} → statement M
 rises-spec =
