@@ -11,7 +11,7 @@ use lib.ListN.{length, getD, drop, length-drop, drop-of-length-le}
 use lib.Seq.{drop-cons}
 use lib.Signed.{ltZ}
 use Rattle.rules.specs.Tests.{all}
-use Rattle.rules.specs.Settings.{Pair, Row, pair, row, rows, rising, lineCheck, checkFrom, linesOf}
+use Rattle.rules.specs.Settings.{Pair, pair, row, rows, rising, lineCheck, checkFrom, linesOf}
 use Rattle.rules.specs.declared.Settings.{Settings}
 use Rattle.rules.specs.declared.SettingsCheck.{SettingsCheck}
 use Rattle.settings.specs.Rows.{rowAt}

@@ -8,8 +8,8 @@ ghost use Rattle.rules.specs.Settings.{inRow, rising, settingsCheck};
 ghost use Rattle.settings.specs.Rows.{rowAt};
 ghost use Rattle.settings.specs.Lines.{lineAt};
 
-mod ranges;
 mod lines;
+mod ranges;
 
 use lines::Pair;
 use lines::pair_at;

@@ -4,7 +4,6 @@ ghost use Prim.Native.Nat.{_<_};
 ghost use lib.IntN.{pos};
 ghost use Rattle.rules.specs.Settings.{pair, pointPair};
 ghost use Rattle.settings.specs.Lines.{pairOf, pairAt, pairsIn};
-
 use rules::Point;
 use rules::Settings;
 
@@ -26,7 +25,7 @@ fn signed(n: i32) -> i64
     n as i64
 }
 
-fn counts(first: u32, second: u32) -> Pair
+fn unsigned_pair(first: u32, second: u32) -> Pair
     ensures { λ r. ⌜ pairOf r ≡ pair (pos first) (pos second) ⌝ }
 {
     Pair {
@@ -35,7 +34,7 @@ fn counts(first: u32, second: u32) -> Pair
     }
 }
 
-fn point(p: Point) -> Pair
+fn point_pair(p: Point) -> Pair
     ensures { λ r. ⌜ pairOf r ≡ pointPair p ⌝ }
 {
     Pair {
@@ -62,19 +61,19 @@ pub fn pair_at(s: Settings, line: usize, k: usize) -> Pair
 {
     if line < 8 {
         let limit = s.trip[line];
-        return counts(limit.level, limit.clearing);
+        return unsigned_pair(limit.level, limit.clearing);
     }
     match line {
-        8 => counts(s.volts.low, s.volts.high),
-        9 => counts(s.hertz.low, s.hertz.high),
-        10 => counts(s.wait, s.ramp),
+        8 => unsigned_pair(s.volts.low, s.volts.high),
+        9 => unsigned_pair(s.hertz.low, s.hertz.high),
+        10 => unsigned_pair(s.wait, s.ramp),
         11 => {
             let p = s.var[k];
-            point(p)
+            point_pair(p)
         }
         _ => {
             let p = s.watt[k];
-            point(p)
+            point_pair(p)
         }
     }
 }

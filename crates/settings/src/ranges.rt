@@ -6,7 +6,6 @@ ghost use lib.Signed.{leZ};
 ghost use Rattle.rules.specs.Settings.{inRow};
 ghost use Rattle.settings.specs.Rows.{rowOf, rowAt};
 ghost use Rattle.settings.specs.Lines.{pairOf};
-
 use crate::lines::Pair;
 
 // Lowest and highest of a line's first number, then of its second, ends included.

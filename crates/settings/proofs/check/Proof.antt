@@ -1,60 +1,66 @@
+-- `settings::check` meets its contract: what the lines from `line` on find is what the sheet's lines find.
+-- Assumes nothing.
+use mathlib.Core.Path.{_≡_, refl, _∙_}
+use Prim.Native.Nat.{_-_, _≤_}
+use native.Mathlib.Omega.{arith}
+use borrow.Author.Needs.{needs}
+use borrow.Author.Tests.{not-true, not-false}
+use Rattle.rules.specs.Settings.{settingsCheck}
+use Rattle.settings.proofs.Steps.{from, line-more, line-end}
 use Rattle.settings.proofs.check.Statement.{statement}
 use Rattle.settings.proofs.check.Tie as tie
-use Rattle.settings.proofs.check.Reads as reads
-use Rattle.settings.proofs.check.Lts as lts
-use Rattle.settings.proofs.in_range.Reads as in-range-reads
-use Rattle.settings.proofs.line_number.Reads as line-number-reads
-use Rattle.settings.proofs.rises.Reads as rises-reads
 
 abbrev Inv-loop : tie.InvT-loop
-Inv-loop s line₀ line = ?
+Inv-loop s line₀ line = (line ≤ 13) × (settingsCheck s ≡ from s line)
 
 abbrev μ-loop : tie.MeasureT-loop
-μ-loop s line₀ line = ?
+μ-loop s line₀ line = 13 - line
 
--- src/lib.rt:77:5
 loop-holds : tie.Need-loop-holds Inv-loop μ-loop
-loop-holds c = ?
+unfolding settingsCheck
+loop-holds c = (omega arith, refl)
 
--- src/lib.rt:78:13
 in-range-requires : tie.Need-in-range-requires Inv-loop μ-loop
-in-range-requires c κs = ?
+in-range-requires c κs = search needs
 
--- src/lib.rt:79:13
 rises-requires : tie.Need-rises-requires Inv-loop μ-loop
-rises-requires c κs = ?
+rises-requires c κs = search needs
 
--- src/lib.rt:81:59
 line-number-requires : tie.Need-line-number-requires Inv-loop μ-loop
-line-number-requires c κs = ?
+line-number-requires c κs = search needs
 
--- src/lib.rt:81:13
 returns : tie.Need-returns Inv-loop μ-loop
-returns c = ?
+returns c =
+    let found = c .before .before in
+    let at = found .before .before .before in
+    let more = line-more (at .before .args .s) (at .loop .line) (omega arith) in
+    rw (at .loop .inv .1, more, ← found .before .in-range .ensures, not-true (found .before .in-range .result) (c .before .if1 .taken), c .line-number .ensures)
 
--- src/lib.rt:84:58
 line-number-requires-2 : tie.Need-line-number-requires-2 Inv-loop μ-loop
-line-number-requires-2 c κs = ?
+line-number-requires-2 c κs = search needs
 
--- src/lib.rt:84:13
 returns-2 : tie.Need-returns-2 Inv-loop μ-loop
-returns-2 c = ?
+returns-2 c =
+    let found = c .before .before .before in
+    let at = found .before .before .before in
+    let more = line-more (at .before .args .s) (at .loop .line) (omega arith) in
+    rw (at .loop .inv .1, more, ← found .before .in-range .ensures, not-false (found .before .in-range .result) (c .before .before .if1 .left), ← found .rises .ensures, not-true (found .rises .result) (c .before .if2 .taken), c .line-number2 .ensures)
 
--- src/lib.rt:86:9
 add-line : tie.Need-add-line Inv-loop μ-loop
-add-line c = ?
+add-line c = search needs
 
--- src/lib.rt:77:5
 loop-less : tie.Need-loop-less Inv-loop μ-loop
-loop-less c = ?
+loop-less c = search needs
 
--- src/lib.rt:77:5
 loop-again : tie.Need-loop-again Inv-loop μ-loop
-loop-again c = ?
+loop-again c =
+    let found = c .before .before in
+    let at = found .before .before .before in
+    let more = line-more (at .before .args .s) (at .loop .line) (omega arith) in
+    (omega arith, at .loop .inv .1 ∙ rw (more, ← found .before .in-range .ensures, not-false (found .before .in-range .result) (c .before .if1 .left), ← found .rises .ensures, not-false (found .rises .result) (c .if2 .left)))
 
--- src/lib.rt:73:1
 returns-3 : tie.Need-returns-3 Inv-loop μ-loop
-returns-3 c = ?
+returns-3 c = rw (c .before .loop .inv .1, line-end (c .before .before .args .s) (c .before .loop .line) (omega arith))
 
 pub check-spec : {M : Type 1} → statement M
 check-spec =

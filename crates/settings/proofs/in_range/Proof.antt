@@ -2,7 +2,7 @@
 -- Assumes nothing.
 use mathlib.Core.Path.{_≡_, refl, _∙_}
 use mathlib.Core.List.{map}
-use Prim.Native.Nat.{_-_, _<_, _≤_}
+use Prim.Native.Nat.{_-_, _≤_}
 use native.Mathlib.Omega.{arith}
 use lib.ListN.{length, drop}
 use borrow.Author.Needs.{needs}
@@ -15,11 +15,6 @@ use Rattle.settings.proofs.Sheet.{pairs-at, unmapped}
 use Rattle.settings.proofs.Steps.{range-more, range-end}
 use Rattle.settings.proofs.in_range.Statement.{statement}
 use Rattle.settings.proofs.in_range.Tie as tie
-use Rattle.settings.proofs.in_range.Reads as reads
-use Rattle.settings.proofs.in_range.Lts as lts
-use Rattle.settings.proofs.lines.pair_at.Reads as pair-at-reads
-use Rattle.settings.proofs.lines.pairs_in.Reads as pairs-in-reads
-use Rattle.settings.proofs.ranges.in_row.Reads as in-row-reads
 
 abbrev Inv-loop : tie.InvT-loop
 Inv-loop s line count k₀ k =

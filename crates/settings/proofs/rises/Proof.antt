@@ -12,11 +12,6 @@ use Rattle.settings.proofs.Sheet.{some-pair, pairs-at, unmapped}
 use Rattle.settings.proofs.Steps.{rise-more, rise-end}
 use Rattle.settings.proofs.rises.Statement.{statement}
 use Rattle.settings.proofs.rises.Tie as tie
-use Rattle.settings.proofs.rises.Reads as reads
-use Rattle.settings.proofs.rises.Lts as lts
-use Rattle.settings.proofs.below.Reads as below-reads
-use Rattle.settings.proofs.lines.pair_at.Reads as pair-at-reads
-use Rattle.settings.proofs.lines.pairs_in.Reads as pairs-in-reads
 
 abbrev Inv-loop : tie.InvT-loop
 Inv-loop s line last k₀ k = (k ≤ last) × (rising (lineAt s line) ≡ rising (drop k (lineAt s line)))

@@ -7,24 +7,16 @@ use Rattle.settings.proofs.Halves.{halves}
 use borrow.Author.Needs.{needs}
 use Rattle.settings.proofs.ranges.in_row.Statement.{statement}
 use Rattle.settings.proofs.ranges.in_row.Tie as tie
-use Rattle.settings.proofs.ranges.in_row.Reads as reads
-use Rattle.settings.proofs.ranges.in_row.Lts as lts
-use Rattle.settings.proofs.ranges.row_at.Reads as row-at-reads
-use Rattle.settings.proofs.ranges.within.Reads as within-reads
 
--- src/ranges.rt:51:9
 row-at-requires : tie.Need-row-at-requires
 row-at-requires c κs = search needs
 
--- src/ranges.rt:52:5
 within-requires : tie.Need-within-requires
 within-requires c κs = search needs
 
--- src/ranges.rt:52:38
 within-requires-2 : tie.Need-within-requires-2
 within-requires-2 c κs = search needs
 
--- src/ranges.rt:47:1
 returns : tie.Need-returns
 returns c =
     let one = c .before .before .before .before .before in

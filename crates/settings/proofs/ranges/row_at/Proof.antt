@@ -1,18 +1,11 @@
 -- `settings::ranges::row_at` meets its contract: the code's table is the table of allowed values, row by row.
 -- Assumes nothing.
-use mathlib.Core.Path.{_≡_, refl, sym, ap, _∙_}
-use mathlib.Core.List.{List, map}
-use lib.IntN.{pos}
-use lib.ListN.{getD, List·getD-map}
+use lib.ListN.{List·getD-map}
 use borrow.Author.Needs.{needs}
 use Rattle.rules.specs.Settings.{rows}
-use Rattle.rules.specs.Settings as rules
-use Rattle.settings.specs.declared.ranges.Row.{Row}
-use Rattle.settings.specs.Rows.{rowOf, rowAt}
+use Rattle.settings.specs.Rows.{rowOf}
 use Rattle.settings.proofs.ranges.row_at.Statement.{statement}
 use Rattle.settings.proofs.ranges.row_at.Tie as tie
-use Rattle.settings.proofs.ranges.row_at.Reads as reads
-use Rattle.settings.proofs.ranges.row_at.Lts as lts
 
 mul-result : tie.Need-mul-result
 mul-result c = search needs

@@ -3,8 +3,6 @@
 use mir.Facts.{toZ-ofZ}
 use Rattle.settings.proofs.ranges.within.Statement.{statement}
 use Rattle.settings.proofs.ranges.within.Tie as tie
-use Rattle.settings.proofs.ranges.within.Reads as reads
-use Rattle.settings.proofs.ranges.within.Lts as lts
 
 returns : tie.Need-returns
 returns c =
