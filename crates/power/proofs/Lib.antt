@@ -1,0 +1,4 @@
+pub mod Magnitude
+pub mod Shares
+pub mod CurveLaws
+pub mod PointLists
