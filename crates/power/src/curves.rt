@@ -5,7 +5,6 @@ ghost use Prim.Native.Nat.{_≤_};
 ghost use lib.IntN.{natAbs};
 ghost use Rattle.rules.specs.Curves.{between, curve};
 ghost use Rattle.power.specs.Points.{Between, Rises, NonNegative};
-
 use rules::Point;
 
 // Between two points: the left power plus power difference times distance by gap, the quotient cut toward zero.

@@ -1,44 +1,37 @@
+-- `power::curves::between` meets its contract: each step fits, and is rule 7's number (`Steps.antt`).
+-- Assumes nothing.
+use native.Mathlib.Omega.{arith}
 use borrow.Author.Needs.{needs}
+use Rattle.power.proofs.Steps.{difference-fits, product-fits, quotient-fits, sum-fits, result-is}
 use Rattle.power.proofs.curves.between.Statement.{statement}
 use Rattle.power.proofs.curves.between.Tie as tie
-use Rattle.power.proofs.curves.between.Reads as reads
-use Rattle.power.proofs.curves.between.Lts as lts
 
--- src/curves.rt:17:22
 sub-difference : tie.Need-sub-difference
-sub-difference c = ?
+sub-difference c = let s = c .before .before .before in difference-fits (s .args .a) (s .args .b) (s .args .v) (s .pre)
 
--- src/curves.rt:19:21
 sub-distance : tie.Need-sub-distance
 sub-distance c = search needs
 
--- src/curves.rt:19:20
 cast-distance : tie.Need-cast-distance
 cast-distance c = search needs
 
--- src/curves.rt:20:16
 sub-gap : tie.Need-sub-gap
 sub-gap c = search needs
 
--- src/curves.rt:20:15
 cast-gap : tie.Need-cast-gap
 cast-gap c = search needs
 
--- src/curves.rt:21:12
 mul-result : tie.Need-mul-result
-mul-result c = ?
+mul-result c = let s = c .before .before .before .before in product-fits (s .args .a) (s .args .b) (s .args .v) (s .pre)
 
--- src/curves.rt:21:12
 div-result : tie.Need-div-result
-div-result c = ?
+div-result c = let s = c .before .before .before .before in (omega arith, quotient-fits (s .args .a) (s .args .b) (s .args .v) (s .pre))
 
--- src/curves.rt:21:5
 add-result : tie.Need-add-result
-add-result c = ?
+add-result c = let s = c .before .before .before .before in sum-fits (s .args .a) (s .args .b) (s .args .v) (s .pre)
 
--- src/curves.rt:12:1
 returns : tie.Need-returns
-returns c = ?
+returns c = let s = c .before .before .before .before in result-is (s .args .a) (s .args .b) (s .args .v) (s .pre)
 
 pub between-spec : {M : Type 1} → statement M
 between-spec =

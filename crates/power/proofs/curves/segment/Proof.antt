@@ -1,25 +1,37 @@
+-- `power::curves::segment` meets its contract: each arm is a piece of the curve, of a sheet's size and so read back from its bits.
+-- Assumes nothing.
+use mathlib.Core.Path.{_∙_, refl}
+use native.Mathlib.Omega.{arith}
 use borrow.Author.Needs.{needs}
+use borrow.Author.Tests.{le-leb, lt-leb}
+use Rattle.rules.specs.Curves.{curve, curveFrom}
+use Rattle.power.proofs.Magnitude.{power-kept}
+use Rattle.power.proofs.Steps.{abs-between}
 use Rattle.power.proofs.curves.segment.Statement.{statement}
 use Rattle.power.proofs.curves.segment.Tie as tie
-use Rattle.power.proofs.curves.segment.Reads as reads
-use Rattle.power.proofs.curves.segment.Lts as lts
-use Rattle.power.proofs.curves.between.Reads as between-reads
 
--- src/curves.rt:32:9
 between-requires : tie.Need-between-requires
 between-requires c κs = search needs
 
--- src/curves.rt:25:1
 returns : tie.Need-returns
-returns c = ?
+unfolding curve curveFrom
+returns c =
+    let z = c .before .before .before .args in
+    simp (lt-leb (z .b .volts) (z .v) (omega arith), lt-leb (z .a .volts) (z .v) (omega arith))
+    (power-kept (z .a .power) _ refl (omega arith))
 
--- src/curves.rt:25:1
 returns-2 : tie.Need-returns-2
-returns-2 c = ?
+unfolding curve curveFrom
+returns-2 c =
+    let z = c .before .before .before .before .before .args in
+    simp (lt-leb (z .b .volts) (z .v) (omega arith), le-leb (z .a .volts) (z .v) (omega arith))
+    (power-kept _ _ (c .between .ensures) (abs-between (z .a) (z .b) (z .v) (search needs)))
 
--- src/curves.rt:25:1
 returns-3 : tie.Need-returns-3
-returns-3 c = ?
+unfolding curve curveFrom
+returns-3 c =
+    let z = c .before .before .before .before .before .args in
+    simp (le-leb (z .b .volts) (z .v) (omega arith)) (power-kept (z .b .power) _ refl (omega arith))
 
 pub segment-spec : {M : Type 1} → statement M
 segment-spec = tie.close (tie.spec between-requires returns returns-2 returns-3)

@@ -1,41 +1,42 @@
+-- `power::rating::root` meets its contract. The loop's invariant: x is at most 10000 and not below the root. The measure is x.
+-- Assumes nothing.
+use Prim.Native.Nat.{ℕ, _+_, _*_, _≤_, _<_}
+use native.Mathlib.Nat.{mul-le-mul, div-le-self}
+use native.Mathlib.Omega.{arith}
+use Rattle.power.proofs.Newton.{divisor, next-above, next-below}
 use Rattle.power.proofs.rating.root.Statement.{statement}
 use Rattle.power.proofs.rating.root.Tie as tie
-use Rattle.power.proofs.rating.root.Reads as reads
-use Rattle.power.proofs.rating.root.Lts as lts
 
 abbrev Inv-loop : tie.InvT-loop
-Inv-loop room x₀ x = ?
+Inv-loop room x₀ x = (x ≤ 10000) × (room < (x + 1) * (x + 1))
 
 abbrev μ-loop : tie.MeasureT-loop
-μ-loop room x₀ x = ?
+μ-loop room x₀ x = x
 
--- src/rating.rt:22:5
 loop-holds : tie.Need-loop-holds Inv-loop μ-loop
-loop-holds c = ?
+loop-holds c = omega arith
 
--- src/rating.rt:22:18
 mul-loop : tie.Need-mul-loop Inv-loop μ-loop
-mul-loop c = ?
+mul-loop c = omega (arith, mul-le-mul (c .loop .inv .0) (c .loop .inv .0))
 
--- src/rating.rt:23:18
+-- in the loop x is above the root
+above : (c : tie.In-loop Inv-loop μ-loop) → c .before .before .args .room < c .before .loop .x * c .before .loop .x
+above c = omega arith
+
 div-x : tie.Need-div-x Inv-loop μ-loop
-div-x c = ?
+div-x c = divisor _ _ (above c)
 
--- src/rating.rt:23:14
 add-x : tie.Need-add-x Inv-loop μ-loop
-add-x c = ?
+add-x c = omega (arith, div-le-self (c .before .before .args .room) (c .before .loop .x))
 
--- src/rating.rt:22:5
 loop-less : tie.Need-loop-less Inv-loop μ-loop
-loop-less c = ?
+loop-less c = next-below _ _ (above c)
 
--- src/rating.rt:22:5
 loop-again : tie.Need-loop-again Inv-loop μ-loop
-loop-again c = ?
+loop-again c = (omega (arith, next-below _ _ (above c)), next-above _ _ (divisor _ _ (above c)))
 
--- src/rating.rt:17:1
 returns : tie.Need-returns Inv-loop μ-loop
-returns c = ?
+returns c = record { low = omega arith; high = c .before .loop .inv .1 }
 
 pub root-spec : {M : Type 1} → statement M
 root-spec =
