@@ -3,7 +3,7 @@
 use mathlib.Core.Path.{_≡_, refl}
 use mathlib.Core.Bool.{Bool, true, false, cond}
 use mathlib.Core.List.{List, [], _∷_}
-use Prim.Native.Nat.{ℕ, _≤_, _<_, zero-le}
+use Prim.Native.Nat.{ℕ, _-_, _≤_, _<_, zero-le}
 use native.Mathlib.Omega.{arith}
 use borrow.Author.Tests.{le-leb, lt-leb, leb-true, leb-false}
 use lib.Dec.{T, leb}
@@ -35,10 +35,15 @@ module _ (P : ℤ → Type 0) (way : (a b : Point) (v : ℕ) → a .volts ≤ v 
 
 pub curve-small : (top : ℕ) (points : List Point) (v : ℕ) → Powers (λ z. natAbs z ≤ top) points → natAbs (curve points v) ≤ top
 curve-small top points v small =
-    keeps (λ z. natAbs z ≤ top) (λ a b v from to left right. between-small a b v from to top left right) points v zero-le small
+    keeps (λ z. natAbs z ≤ top)
+    (λ a b v from to left right. between-small top (a .power) (b .power) (v - a .volts) (b .volts - a .volts) (omega arith) left right)
+    points v zero-le small
 
 pub curve-nonNeg : (points : List Point) (v : ℕ) → NonNegative points → T (nonNeg (curve points v))
-curve-nonNeg points v positive = keeps (λ z. T (nonNeg z)) between-nonNeg points v tt positive
+curve-nonNeg points v kept =
+    keeps (λ z. T (nonNeg z))
+    (λ a b v from to left right. between-nonNeg (a .power) (b .power) (v - a .volts) (b .volts - a .volts) (omega arith) left right)
+    points v tt kept
 
 -- ---- on either side of a point
 

@@ -9,7 +9,7 @@ use lib.IntN.{ℤ, natAbs}
 use Rattle.rules.specs.Sensing.{largest}
 use Rattle.rules.specs.Curves.{nameplate}
 use Rattle.roots.specs.Root.{IsRoot}
-use Rattle.roots.proofs.Largest.{square-above, largest-square}
+use Rattle.roots.proofs.Largest.{largest-square}
 use Rattle.roots.proofs.Roots.{root-below, largest-root}
 
 module _ (vars : ℤ) (small : natAbs vars ≤ 10000) where
@@ -40,5 +40,5 @@ module _ (vars : ℤ) (small : natAbs vars ≤ 10000) where
   -- and one that does not fit is not below it
   pub power-over : (p : ℕ) → 100000000 < p * p + used → nameplate vars ≡ min p (nameplate vars)
   power-over p h =
-      omega
-      (arith, root-below (nameplate vars) p (100000000 - used) (nameplate-root .low) (omega (arith, used-small, square-above p (p + 1) (omega arith), mul-le-mul {n₁ = p} {m₁ = p} {n₂ = p + 1} {m₂ = p + 1} (omega arith) (omega arith))))
+      let less : 100000000 - used < (p + 1) * (p + 1) = omega (arith, used-small, mul-le-mul {n₁ = p} {m₁ = p} {n₂ = p + 1} {m₂ = p + 1} (omega arith) (omega arith)) in
+      omega (arith, root-below (nameplate vars) p (100000000 - used) (nameplate-root .low) less)

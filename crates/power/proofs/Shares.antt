@@ -9,8 +9,6 @@ use borrow.Author.Tests.{ltb-false, le-ltb}
 use lib.Dec.{T, ltb}
 use lib.IntN.{ℤ, pos, negsuc, negℤ, natAbs, subℕ, _+ℤ_, _-ℤ_, _*ℤ_, negℤ-negℤ, negℤ-+ℤ, +ℤ-comm, -ℤ-+ℤ-cancel}
 use lib.Signed.{quotZ, nonNeg}
-use Rattle.rules.specs.declared.Point.{Point}
-use Rattle.rules.specs.Curves.{between}
 use Rattle.power.proofs.Magnitude.{abs-neg, abs-sub}
 
 -- a power difference added to the left power is the right power
@@ -63,13 +61,10 @@ share-nonNeg (pos m) (negsuc n) x g h left right =
     rw quot-neg (down-nonNeg m (suc n * x / g) (le-trans (share-le (suc n) x g h) (nonNeg-down m (suc n) right)))
 share-nonNeg (negsuc m) d x g h left right = absurd left
 
--- ---- of two points and a voltage between them
+-- ---- between two powers
 
-module _ (a b : Point) (v : ℕ) (from : a .volts ≤ v) (to : v < b .volts) where
-  pub between-small : (top : ℕ) → natAbs (a .power) ≤ top → natAbs (b .power) ≤ top → natAbs (between a b v) ≤ top
-  between-small top left right =
-      share-small top (a .power) (b .power -ℤ a .power) (v - a .volts) (b .volts - a .volts) (omega arith) left (rw right-power right)
+pub between-small : (top : ℕ) (a b : ℤ) (x g : ℕ) → x ≤ g → natAbs a ≤ top → natAbs b ≤ top → natAbs (a +ℤ quotZ ((b -ℤ a) *ℤ pos x) (pos g)) ≤ top
+between-small top a b x g h left right = share-small top a (b -ℤ a) x g h left (rw right-power right)
 
-  pub between-nonNeg : T (nonNeg (a .power)) → T (nonNeg (b .power)) → T (nonNeg (between a b v))
-  between-nonNeg left right =
-      share-nonNeg (a .power) (b .power -ℤ a .power) (v - a .volts) (b .volts - a .volts) (omega arith) left (rw right-power right)
+pub between-nonNeg : (a b : ℤ) (x g : ℕ) → x ≤ g → T (nonNeg a) → T (nonNeg b) → T (nonNeg (a +ℤ quotZ ((b -ℤ a) *ℤ pos x) (pos g)))
+between-nonNeg a b x g h left right = share-nonNeg a (b -ℤ a) x g h left (rw right-power right)

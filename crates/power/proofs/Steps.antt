@@ -1,7 +1,7 @@
 -- The machine's numbers in `between`, each read back from its bits: each fits an i32, so each is the number that rule 7 has.
 -- Assumes nothing.
 use mathlib.Core.Path.{_≡_, _∙_}
-use Prim.Native.Nat.{ℕ, _-_, _≤_}
+use Prim.Native.Nat.{ℕ, _≤_}
 use native.Mathlib.Nat.{mul-le-mul, div-le-self}
 use native.Mathlib.Omega.{arith}
 use lib.IntN.{ℤ, pos, negℤ, natAbs, _+ℤ_, _-ℤ_, _*ℤ_}
@@ -9,9 +9,7 @@ use lib.Signed.{quotZ}
 use mir.Syntax.{w32}
 use mir.Val.{SFits, toZ, ofZ}
 use mir.Facts.{toZ-ofZ, toZ-pos}
-use Rattle.rules.specs.declared.Point.{Point}
-use Rattle.rules.specs.Curves.{between}
-use Rattle.power.specs.Points.{Between}
+use Rattle.power.specs.Points.{Inside}
 use Rattle.power.proofs.Magnitude.{fits, kept, abs-neg, abs-add, abs-mul, abs-quot}
 use Rattle.power.proofs.Shares.{between-small}
 
@@ -30,18 +28,10 @@ quotient a b x g = quotZ (back (product a b x)) (toZ w32 g)
 abbrev sum : ℤ → ℤ → ℕ → ℕ → ℤ
 sum a b x g = back a +ℤ back (quotient a b x g)
 
-module _ (p q : Point) (v : ℕ) (on : Between p q v) where
-  abbrev a : ℤ
-  a = p .power
-
-  abbrev b : ℤ
-  b = q .power
-
-  abbrev x : ℕ
-  x = v - p .volts
-
-  abbrev g : ℕ
-  g = q .volts - p .volts
+module _ (a b : ℤ) (x g : ℕ) (ok : Inside a b x g) where
+  -- rule 7's number
+  abbrev ruled : ℤ
+  ruled = a +ℤ quotZ ((b -ℤ a) *ℤ pos x) (pos g)
 
   -- ---- the magnitudes of the rule's numbers
 
@@ -54,8 +44,8 @@ module _ (p q : Point) (v : ℕ) (on : Between p q v) where
   abs-quotient : natAbs (quotZ ((b -ℤ a) *ℤ pos x) (pos g)) ≤ 260000000
   abs-quotient = rw abs-quot (omega (arith, abs-product, div-le-self (natAbs ((b -ℤ a) *ℤ pos x)) g))
 
-  pub abs-between : natAbs (between p q v) ≤ 10000
-  abs-between = between-small p q v (on .from) (on .to) 10000 (omega arith) (omega arith)
+  pub abs-between : natAbs ruled ≤ 10000
+  abs-between = between-small 10000 a b x g (omega arith) (ok .left-top) (ok .right-top)
 
   -- ---- the machine's numbers are the rule's
 
@@ -68,7 +58,7 @@ module _ (p q : Point) (v : ℕ) (on : Between p q v) where
   quotient-is : quotient a b x g ≡ quotZ ((b -ℤ a) *ℤ pos x) (pos g)
   quotient-is = rw (product-is, kept ((b -ℤ a) *ℤ pos x) (omega (arith, abs-product)), toZ-pos w32 {n = g} (omega arith))
 
-  sum-is : sum a b x g ≡ between p q v
+  sum-is : sum a b x g ≡ ruled
   sum-is = rw (quotient-is, kept a (omega arith), kept (quotZ ((b -ℤ a) *ℤ pos x) (pos g)) (omega (arith, abs-quotient)))
 
   -- ---- and fit
@@ -83,7 +73,7 @@ module _ (p q : Point) (v : ℕ) (on : Between p q v) where
   quotient-fits = rw quotient-is (fits (quotZ ((b -ℤ a) *ℤ pos x) (pos g)) (omega (arith, abs-quotient)))
 
   pub sum-fits : SFits w32 (sum a b x g)
-  sum-fits = rw sum-is (fits (between p q v) (omega (arith, abs-between)))
+  sum-fits = rw sum-is (fits (ruled) (omega (arith, abs-between)))
 
-  pub result-is : back (sum a b x g) ≡ between p q v
+  pub result-is : back (sum a b x g) ≡ ruled
   result-is = toZ-ofZ sum-fits ∙ sum-is

@@ -31,9 +31,10 @@ Powers P (a ∷ rest) = P (a .power) × Powers P rest
 abbrev pub NonNegative : List Point → Type 0
 NonNegative points = Powers (λ z. T (nonNeg z)) points
 
--- a voltage from the first of two allowed points on and below the second
-pub record Between (a b : Point) (v : ℕ) : Type 0 where
-  pub left : Allowed a
-  pub right : Allowed b
-  pub from : a .volts ≤ v
-  pub to : v < b .volts
+-- two powers of a sheet's size, the gap between their voltages, which is some, and a distance inside it
+pub record Inside (left right : ℤ) (distance gap : ℕ) : Type 0 where
+  pub left-top : natAbs left ≤ 10000
+  pub right-top : natAbs right ≤ 10000
+  pub gap-some : 0 < gap
+  pub gap-top : gap ≤ 13000
+  pub inside : distance ≤ gap

@@ -2,22 +2,18 @@
 ghost use mathlib.Core.Path.{_≡_};
 ghost use mathlib.Core.List.{[], _∷_};
 ghost use Prim.Native.Nat.{_≤_};
-ghost use lib.IntN.{natAbs};
-ghost use Rattle.rules.specs.Curves.{between, curve};
-ghost use Rattle.power.specs.Points.{Between, Rises, NonNegative};
+ghost use lib.IntN.{pos, natAbs, _+ℤ_, _-ℤ_, _*ℤ_};
+ghost use lib.Signed.{quotZ};
+ghost use Rattle.rules.specs.Curves.{curve};
+ghost use Rattle.power.specs.Points.{Inside, Rises, NonNegative};
 use rules::Point;
 
-// Between two points: the left power plus power difference times distance by gap, the quotient cut toward zero.
-fn between(a: Point, b: Point, v: u32) -> i32
-    requires { ⌜ Between a b v ⌝ }
-    ensures { λ r. ⌜ r ≡ between a b v ⌝ }
+// Between two points: the left power plus (power difference times distance by gap), the quotient cut toward zero.
+fn between(left: i32, right: i32, distance: u32, gap: u32) -> i32
+    requires { ⌜ Inside left right distance gap ⌝ }
+    ensures { λ r. ⌜ r ≡ left +ℤ quotZ ((right -ℤ left) *ℤ pos distance) (pos gap) ⌝ }
 {
-    let left = a.power;
-    let difference = b.power - left;
-    let start = a.volts;
-    let distance = (v - start) as i32;
-    let gap = (b.volts - start) as i32;
-    left + difference * distance / gap
+    left + (right - left) * (distance as i32) / (gap as i32)
 }
 
 // The curve through two points, at any voltage.
@@ -25,12 +21,16 @@ fn segment(a: Point, b: Point, v: u32) -> i32
     requires { ⌜ Rises (a ∷ b ∷ []) ⌝ }
     ensures { λ r. ⌜ r ≡ curve (a ∷ b ∷ []) v ⌝ }
 {
-    if v < a.volts {
-        a.power
-    } else if v < b.volts {
-        between(a, b, v)
+    let start = a.volts;
+    let end = b.volts;
+    let left = a.power;
+    let right = b.power;
+    if v < start {
+        left
+    } else if v < end {
+        between(left, right, v - start, end - start)
     } else {
-        b.power
+        right
     }
 }
 
@@ -44,9 +44,11 @@ pub fn volt_var(points: [Point; 4], v: u32) -> i32
     let b = points[1];
     let c = points[2];
     let d = points[3];
-    if v < b.volts {
+    let second = b.volts;
+    let third = c.volts;
+    if v < second {
         segment(a, b, v)
-    } else if v < c.volts {
+    } else if v < third {
         segment(b, c, v)
     } else {
         segment(c, d, v)

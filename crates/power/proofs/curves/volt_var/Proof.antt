@@ -42,14 +42,14 @@ rising s = subst Rises (points-are s) (s .pre)
 
 segment-requires : tie.Need-segment-requires
 segment-requires c κs =
-    let s = c .before .before .before .before .before .before in first-two (at s 0) (at s 1) (at s 2 ∷ at s 3 ∷ []) (rising s)
+    let s = c .before .before .before .before .before in first-two (at s 0) (at s 1) (at s 2 ∷ at s 3 ∷ []) (rising s)
 
 segment-requires-2 : tie.Need-segment-requires-2
 segment-requires-2 c κs =
-    let s = c .before .before .before .before .before .before .before .before in first-two (at s 1) (at s 2) (at s 3 ∷ []) (rising s .2)
+    let s = c .before .before .before .before .before .before in first-two (at s 1) (at s 2) (at s 3 ∷ []) (rising s .2)
 
 segment-requires-3 : tie.Need-segment-requires-3
-segment-requires-3 c κs = let s = c .before .before .before .before .before .before .before .before in rising s .2 .2
+segment-requires-3 c κs = let s = c .before .before .before .before .before .before in rising s .2 .2
 
 -- ---- the answer, from a segment that is the curve there
 
@@ -68,13 +68,13 @@ module _ (s : tie.Start) where
 
 returns : tie.Need-returns
 returns c =
-    let s = c .before .before .before .before .before .before .before in
+    let s = c .before .before .before .before .before .before in
     answer s (c .segment .result)
     (c .segment .ensures ∙ left-of (at s 0) (at s 1) (at s 2 ∷ at s 3 ∷ []) (v s) (omega arith))
 
 returns-2 : tie.Need-returns-2
 returns-2 c =
-    let s = c .before .before .before .before .before .before .before .before .before in
+    let s = c .before .before .before .before .before .before .before in
     answer s (c .segment2 .result)
     (c .segment2 .ensures
     ∙ left-of (at s 1) (at s 2) (at s 3 ∷ []) (v s) (omega arith)
@@ -82,7 +82,7 @@ returns-2 c =
 
 returns-3 : tie.Need-returns-3
 returns-3 c =
-    let s = c .before .before .before .before .before .before .before .before .before in
+    let s = c .before .before .before .before .before .before .before in
     answer s (c .segment3 .result)
     (c .segment3 .ensures
     ∙ right-of (at s 1) (at s 2) (at s 3 ∷ []) (v s) (omega arith)
