@@ -6,11 +6,14 @@ use native.Mathlib.Nat.{mul-le-mul}
 use native.Mathlib.Omega.{arith}
 use lib.Dec.{leb}
 use lib.IntN.{ℤ, natAbs}
+use mir.Syntax.{w32}
+use mir.Val.{toZ, ofZ}
 use Rattle.rules.specs.Sensing.{largest}
 use Rattle.rules.specs.Curves.{nameplate}
 use Rattle.roots.specs.Root.{IsRoot}
 use Rattle.roots.proofs.Largest.{largest-square}
 use Rattle.roots.proofs.Roots.{root-below, largest-root}
+use Rattle.power.proofs.Magnitude.{kept}
 
 module _ (vars : ℤ) (small : natAbs vars ≤ 10000) where
   abbrev used : ℕ
@@ -18,6 +21,10 @@ module _ (vars : ℤ) (small : natAbs vars ≤ 10000) where
 
   pub used-small : used ≤ 100000000
   used-small = mul-le-mul small small
+
+  -- the square that a call was given back, its argument read from its bits
+  pub square-read : {r : ℕ} → r ≡ natAbs (toZ w32 (ofZ w32 vars)) * natAbs (toZ w32 (ofZ w32 vars)) → r ≡ used
+  square-read e = rw (kept vars (omega arith)) at e
 
   pub nameplate-is : (r : ℕ) → IsRoot (100000000 - used) r → r ≡ nameplate vars
   unfolding nameplate

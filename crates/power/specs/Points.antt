@@ -31,7 +31,7 @@ Powers P (a ∷ rest) = P (a .power) × Powers P rest
 abbrev pub NonNegative : List Point → Type 0
 NonNegative points = Powers (λ z. T (nonNeg z)) points
 
--- two powers of a sheet's size, the gap between their voltages, which is some, and a distance inside it
+-- two powers of a sheet's size, a gap between their voltages that is not 0, and a distance inside it
 pub record Inside (left right : ℤ) (distance gap : ℕ) : Type 0 where
   pub left-top : natAbs left ≤ 10000
   pub right-top : natAbs right ≤ 10000

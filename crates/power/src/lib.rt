@@ -1,6 +1,6 @@
 // Document 01, rules 7 and 8: the volt-var and volt-watt curves, and the watts that the nameplate leaves beside vars.
-pub mod curves;
-pub mod rating;
+mod curves;
+mod rating;
 
 pub use curves::volt_var;
 pub use curves::volt_watt;

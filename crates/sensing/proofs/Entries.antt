@@ -1,6 +1,6 @@
 -- A test that passes at every entry of a list and its place, computed once, passes at each place.
 -- Assumes nothing.
-use mathlib.Core.Path.{_≡_, _∙_, subst, sym}
+use mathlib.Core.Path.{_∙_, subst, sym}
 use mathlib.Core.Bool.{Bool, true, false, _&&_}
 use mathlib.Core.List.{List, [], _∷_}
 use Prim.Native.Nat.{ℕ, zero, suc, _+_, _<_}
@@ -28,5 +28,6 @@ from test (x ∷ xs) i t (suc k) h =
     subst (λ (m : ℕ). T (test m (getD xs k 0))) (suc-add i k ∙ sym (add-suc i k))
     (from test xs (suc i) (both-right (test i x) (every test (suc i) xs) t) k (le-of-suc-le-suc h))
 
+-- carried to the place k
 pub at : (test : ℕ → ℕ → Bool) (xs : List ℕ) → T (every test 0 xs) → (k : ℕ) → k < length xs → T (test k (getD xs k 0))
 at test xs t k h = subst (λ (m : ℕ). T (test m (getD xs k 0))) (zero-add k) (from test xs 0 t k h)

@@ -6,9 +6,6 @@ use borrow.Author.Tests.{le-leb, lt-leb}
 use Rattle.rules.specs.Sensing.{sensed, lastCode}
 use Rattle.sensing.proofs.sense.Statement.{statement}
 use Rattle.sensing.proofs.sense.Tie as tie
-use Rattle.sensing.proofs.sense.Reads as reads
-use Rattle.sensing.proofs.sense.Lts as lts
-use Rattle.sensing.proofs.volts.Reads as volts-reads
 
 volts-requires : tie.Need-volts-requires
 volts-requires c κs = search needs

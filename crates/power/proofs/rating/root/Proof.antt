@@ -1,6 +1,6 @@
 -- `power::rating::root` meets its contract. The loop's invariant: x is at most 10000 and not below the root. The measure is x.
 -- Assumes nothing.
-use Prim.Native.Nat.{ℕ, _+_, _*_, _≤_, _<_}
+use Prim.Native.Nat.{_+_, _*_, _≤_, _<_}
 use native.Mathlib.Nat.{mul-le-mul, div-le-self}
 use native.Mathlib.Omega.{arith}
 use Rattle.power.proofs.Newton.{divisor, next-above, next-below}
