@@ -26,25 +26,25 @@ in-range-requires c κs = search needs
 rises-requires : tie.Need-rises-requires Inv-loop μ-loop
 rises-requires c κs = search needs
 
-line-number-requires : tie.Need-line-number-requires Inv-loop μ-loop
-line-number-requires c κs = search needs
+add-number : tie.Need-add-number Inv-loop μ-loop
+add-number c = search needs
+
+cast-number : tie.Need-cast-number Inv-loop μ-loop
+cast-number c = search needs
 
 returns : tie.Need-returns Inv-loop μ-loop
 returns c =
-    let found = c .before .before in
+    let found = c .before in
     let at = found .before .before .before in
     let more = line-more (at .before .args .s) (at .loop .line) (omega arith) in
-    rw (at .loop .inv .1, more, ← found .before .in-range .ensures, not-true (found .before .in-range .result) (c .before .if1 .taken), c .line-number .ensures)
-
-line-number-requires-2 : tie.Need-line-number-requires-2 Inv-loop μ-loop
-line-number-requires-2 c κs = search needs
+    rw (at .loop .inv .1, more, ← found .before .in-range .ensures, not-true (found .before .in-range .result) (c .if1 .taken))
 
 returns-2 : tie.Need-returns-2 Inv-loop μ-loop
 returns-2 c =
-    let found = c .before .before .before in
+    let found = c .before .before in
     let at = found .before .before .before in
     let more = line-more (at .before .args .s) (at .loop .line) (omega arith) in
-    rw (at .loop .inv .1, more, ← found .before .in-range .ensures, not-false (found .before .in-range .result) (c .before .before .if1 .left), ← found .rises .ensures, not-true (found .rises .result) (c .before .if2 .taken), c .line-number2 .ensures)
+    rw (at .loop .inv .1, more, ← found .before .in-range .ensures, not-false (found .before .in-range .result) (c .before .if1 .left), ← found .rises .ensures, not-true (found .rises .result) (c .if2 .taken))
 
 add-line : tie.Need-add-line Inv-loop μ-loop
 add-line c = search needs
@@ -71,9 +71,9 @@ check-spec =
     loop-holds
     in-range-requires
     rises-requires
-    line-number-requires
+    add-number
+    cast-number
     returns
-    line-number-requires-2
     returns-2
     add-line
     loop-less
