@@ -4,7 +4,7 @@ ghost use mathlib.Core.List.{map};
 ghost use Prim.Native.Nat.{_<_};
 ghost use Rattle.rules.specs.Tests.{all};
 ghost use Rattle.rules.specs.Settings.{inRow, rising, settingsCheck};
-ghost use Rattle.settings.specs.Rows.{rowAt};
+ghost use Rattle.settings.specs.Rows.{rowOf};
 ghost use Rattle.settings.specs.Lines.{lineAt};
 
 mod lines;
@@ -12,21 +12,23 @@ mod ranges;
 
 use lines::pair_at;
 use lines::pairs_in;
+use ranges::Row;
 use ranges::in_row;
+use ranges::table;
 use rules::Refusal;
 use rules::Settings;
 use rules::SettingsCheck;
 
-// Whether every pair of a line lies in its row.
-fn in_range(s: Settings, line: usize) -> bool
+// Whether every pair of a line lies in a row.
+fn in_range(row: Row, s: Settings, line: usize) -> bool
     requires { ⌜ line < 13 ⌝ }
-    ensures { λ r. ⌜ r ≡ all (map (inRow (rowAt line)) (lineAt s line)) ⌝ }
+    ensures { λ r. ⌜ r ≡ all (map (inRow (rowOf row)) (lineAt s line)) ⌝ }
 {
     let count = pairs_in(line);
     let mut k = 0;
     while k < count {
         let p = pair_at(s, line, k);
-        if !in_row(line, p) {
+        if !in_row(row, p) {
             return false;
         }
         k += 1;
@@ -56,9 +58,11 @@ fn rises(s: Settings, line: usize) -> bool
 pub fn check(s: Settings) -> SettingsCheck
     ensures { λ r. ⌜ r ≡ settingsCheck s ⌝ }
 {
+    let rows = table();
     let mut line = 0;
     while line < 13 {
-        let range = in_range(s, line);
+        let row = rows[line];
+        let range = in_range(row, s, line);
         let rise = rises(s, line);
         let number = (line + 1) as u8;
         if !range {

@@ -1,10 +1,10 @@
 // Document 01, "The sheet": the table of allowed values, and the one range check that reads it.
 ghost use mathlib.Core.Path.{_≡_};
 ghost use mathlib.Core.Bool.{_&&_};
-ghost use Prim.Native.Nat.{_<_};
+ghost use mathlib.Core.List.{map};
 ghost use lib.Signed.{leZ};
-ghost use Rattle.rules.specs.Settings.{inRow};
-ghost use Rattle.settings.specs.Rows.{rowOf, rowAt};
+ghost use Rattle.rules.specs.Settings.{rows, inRow};
+ghost use Rattle.settings.specs.Rows.{rowOf};
 ghost use Rattle.settings.specs.Lines.{pairOf};
 use crate::lines::Pair;
 
@@ -28,12 +28,11 @@ const ROWS: [Row; 13] = [
     Row(10000, 12000, 0, 10000), // watt
 ];
 
-// The row of a line, counted from 0.
-fn row_at(line: usize) -> Row
-    requires { ⌜ line < 13 ⌝ }
-    ensures { λ r. ⌜ rowOf r ≡ rowAt line ⌝ }
+// The whole table.
+pub fn table() -> [Row; 13]
+    ensures { λ r. ⌜ map rowOf r ≡ rows ⌝ }
 {
-    ROWS[line]
+    ROWS
 }
 
 // Whether a number lies in a range, ends included.
@@ -43,11 +42,9 @@ fn within(low: i64, high: i64, n: i64) -> bool
     low <= n && n <= high
 }
 
-// Whether a pair lies in the row of a line, counted from 0.
-pub fn in_row(line: usize, p: Pair) -> bool
-    requires { ⌜ line < 13 ⌝ }
-    ensures { λ r. ⌜ r ≡ inRow (rowAt line) (pairOf p) ⌝ }
+// Whether a pair lies in a row.
+pub fn in_row(row: Row, p: Pair) -> bool
+    ensures { λ r. ⌜ r ≡ inRow (rowOf row) (pairOf p) ⌝ }
 {
-    let row = row_at(line);
     within(row.0, row.1, p.first) && within(row.2, row.3, p.second)
 }
