@@ -7,6 +7,7 @@ ghost use lib.Dec.{leb};
 ghost use Rattle.rules.specs.Tests.{all, within};
 ghost use Rattle.rules.specs.Sensing.{lastCode};
 ghost use Rattle.rules.specs.Samples.{sampleCheck, sampleAccepted};
+ghost use Rattle.sensing.specs.Tables.{IsTable};
 ghost use Rattle.service.specs.Readings.{readingOf};
 use rules::Refusal;
 use rules::SampleCheck;
@@ -88,21 +89,28 @@ fn most(a: u32, b: u32) -> u32
     if a < b { b } else { a }
 }
 
-// The reading of an accepted slice.
-pub fn read(x: &[u32]) -> Reading
-    requires { ⌜ sampleAccepted (now x) ≡ true ⌝ }
+// The reading of an accepted slice, by the sensing table.
+pub fn read(table: &[u16; 4096], x: &[u32]) -> Reading
+    requires { ⌜ (IsTable (now table)) × (sampleAccepted (now x) ≡ true) ⌝ }
     ensures { λ r. ⌜ r ≡ readingOf (now (x .entry)) ⌝ }
 {
-    let a = volts(x[0]) as u32;
-    let b = volts(x[1]) as u32;
-    let c = volts(x[2]) as u32;
+    let a = volts(table, x[0]) as u32;
+    let b = volts(table, x[1]) as u32;
+    let c = volts(table, x[2]) as u32;
+    let low = least(a, least(b, c));
+    let high = most(a, most(b, c));
+    let sum = a + b + c;
+    let frequency = x[3];
+    let permission = x[4];
+    let available = x[5];
+    let limit = x[6];
     Reading {
-        low: least(a, least(b, c)),
-        high: most(a, most(b, c)),
-        sum: a + b + c,
-        frequency: x[3],
-        permit: x[4] == 1,
-        available: x[5],
-        limit: x[6],
+        low,
+        high,
+        sum,
+        frequency,
+        permit: permission == 1,
+        available,
+        limit,
     }
 }

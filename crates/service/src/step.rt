@@ -10,6 +10,7 @@ ghost use Rattle.rules.specs.Regions.{regionOf, isContinuous, ourEquipment};
 ghost use Rattle.rules.specs.Service.{serves, ramped, statusOf, inService};
 ghost use Rattle.rules.specs.Reports.{packedAfter};
 ghost use Rattle.rules.specs.Records.{fresh, settled, next, stepOf};
+ghost use Rattle.sensing.specs.Tables.{IsTable};
 ghost use Rattle.service.specs.Readings.{readingOf, Exportable};
 ghost use Rattle.service.specs.Steps.{Bits, reported};
 use crate::counters::Counters;
@@ -27,6 +28,7 @@ use rules::SampleCheck;
 use rules::Settings;
 use rules::SettingsCheck;
 use rules::Stepped;
+use sensing::table;
 
 // A fresh board: tripped, with all counters, ramp, watts and vars 0.
 pub fn fresh() -> Board
@@ -167,9 +169,9 @@ fn advance(b: Board, s: Settings, r: Reading) -> Stepped
     settle(s, r, c, on, area, ramp)
 }
 
-// The step under settings that are accepted: only the sample is checked.
-pub fn step_accepted(b: Board, s: Settings, x: &[u32]) -> Stepped
-    requires { ⌜ settingsAccepted s ≡ true ⌝ }
+// The step under settings that are accepted and with the sensing table lent: only the sample is checked.
+pub fn step_accepted(table: &[u16; 4096], b: Board, s: Settings, x: &[u32]) -> Stepped
+    requires { ⌜ (IsTable (now table)) × (settingsAccepted s ≡ true) ⌝ }
     ensures { λ t. ⌜ t ≡ stepOf ourEquipment b s (now (x .entry)) ⌝ }
 {
     match check(x) {
@@ -177,7 +179,7 @@ pub fn step_accepted(b: Board, s: Settings, x: &[u32]) -> Stepped
             board: b,
             answer: Answer::Refused(cause),
         },
-        SampleCheck::Accepted => advance(b, s, read(x)),
+        SampleCheck::Accepted => advance(b, s, read(table, x)),
     }
 }
 
@@ -190,6 +192,9 @@ pub fn step(b: Board, s: Settings, x: &[u32]) -> Stepped
             board: b,
             answer: Answer::Refused(cause),
         },
-        SettingsCheck::Accepted => step_accepted(b, s, x),
+        SettingsCheck::Accepted => {
+            let t = table();
+            step_accepted(&t, b, s, x)
+        }
     }
 }

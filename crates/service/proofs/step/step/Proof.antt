@@ -17,8 +17,12 @@ enum-known-cause c = search needs
 enum-told : tie.Need-enum-told
 enum-told c = search needs
 
+table-requires : tie.Need-table-requires
+table-requires c κs = search needs
+
 step-accepted-requires : tie.Need-step-accepted-requires
-step-accepted-requires c κs = ap isAccepted (sym (c .before .before .check .ensures) ∙ c .enum-told .given .1)
+step-accepted-requires c κs =
+    (c .before .table .ensures, ap isAccepted (sym (c .before .before .before .before .check .ensures) ∙ c .before .before .enum-told .given .1))
 
 returns : tie.Need-returns
 returns c =
@@ -31,4 +35,11 @@ returns-2 c = search needs
 pub step-spec : {M : Type 1} → statement M
 step-spec =
     tie.close
-    (tie.spec check-requires enum-known-cause enum-told step-accepted-requires returns returns-2)
+    (tie.spec
+    check-requires
+    enum-known-cause
+    enum-told
+    table-requires
+    step-accepted-requires
+    returns
+    returns-2)
