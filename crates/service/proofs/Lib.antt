@@ -1,4 +1,3 @@
-pub mod Counting
 pub mod Bits
 pub mod Curves
 pub mod Stepping

@@ -30,8 +30,8 @@ use Rattle.rules.specs.declared.SampleCheck.{SampleCheck}
 use Rattle.rules.specs.declared.Answer.{Answer}
 use Rattle.rules.specs.declared.Stepped.{Stepped}
 use Rattle.laws.proofs.Bools.{true-within}
-use Rattle.service.specs.declared.reading.Reading.{Reading}
-use Rattle.service.specs.Readings.{readingOf, enters, rulesFrom, rulesAt}
+use Rattle.readings.specs.declared.reading.Reading.{Reading}
+use Rattle.readings.specs.Readings.{readingOf, enters, rulesFrom, rulesAt}
 use Rattle.service.specs.Steps.{Bits, reported}
 
 -- ---- a power fits the record's fields

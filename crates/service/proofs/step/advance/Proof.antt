@@ -12,8 +12,8 @@ use Rattle.rules.specs.Regions.{isContinuous}
 use Rattle.rules.specs.Service.{serves, ramped}
 use Rattle.rules.specs.Reports.{packedAfter}
 use Rattle.rules.specs.Records.{each}
-use Rattle.service.specs.declared.reading.Reading.{Reading}
-use Rattle.service.specs.Readings.{readingOf, rulesAt}
+use Rattle.readings.specs.declared.reading.Reading.{Reading}
+use Rattle.readings.specs.Readings.{readingOf, rulesAt}
 use Rattle.service.specs.Steps.{reported}
 use Rattle.service.proofs.Stepping.{ramp-top, region-of, bits-next, advance-is}
 use borrow.Author.Needs.{needs}
