@@ -8,3 +8,4 @@ pub mod Demand2
 pub mod Told
 pub mod Probes
 pub mod Ramps
+pub mod Images
