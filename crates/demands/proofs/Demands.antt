@@ -2,7 +2,8 @@
 -- Assumes nothing.
 use Rattle.rules.specs.Regions.{ourEquipment}
 use Rattle.laws.proofs.Demand2.{demand2}
-use Rattle.demands.specs.Demands.{OurTripAndReturn, AnyTripAndReturn, OurEquipmentSound, ShamsCaught, StarredEdges}
+use Rattle.laws.proofs.Demand3.{demand3}
+use Rattle.demands.specs.Demands.{OurTripAndReturn, AnyTripAndReturn, OurEquipmentSound, OurTwoHistories, AnyTwoHistories, ShamsCaught, StarredEdges}
 use Rattle.demands.proofs.Edges.{edges-hold}
 use Rattle.demands.proofs.Sound.{our-equipment-sound}
 use Rattle.demands.proofs.Shams.{early, invented, tripped, repeated, kept}
@@ -15,6 +16,12 @@ ourEquipmentSound = our-equipment-sound
 
 pub ourTripAndReturn : OurTripAndReturn
 ourTripAndReturn = demand2 ourEquipment our-equipment-sound
+
+pub anyTwoHistories : AnyTwoHistories
+anyTwoHistories e sound = demand3 e sound
+
+pub ourTwoHistories : OurTwoHistories
+ourTwoHistories = demand3 ourEquipment our-equipment-sound
 
 pub shamsCaught : ShamsCaught
 shamsCaught = record { early = early; invented = invented; tripped = tripped; repeated = repeated; kept = kept }

@@ -3,12 +3,12 @@
 -- The board is `ours`: a fresh record, and the step that the contract of `service::step::step` promises for every record,
 -- settings and slice there can be, `stepOf ourEquipment`. The words of a statement are defined in the crates `claims` and `rules`.
 -- Assumes nothing.
-use mathlib.Core.Path.{_≡_}
 use Rattle.rules.specs.Samples.{Equipment}
 use Rattle.rules.specs.Regions.{ourEquipment}
 use Rattle.claims.specs.Calls.{Program, ruledBy}
 use Rattle.claims.specs.Sound.{Sound}
 use Rattle.claims.specs.TripAndReturn.{Demand2}
+use Rattle.claims.specs.TwoHistories.{Demand3}
 use Rattle.demands.specs.Edges.{EdgesHold}
 use Rattle.demands.specs.Shams.{tripsEarly, inventsCounters, alwaysTripped, repeatsFirst, keepsRecord}
 
@@ -29,6 +29,16 @@ AnyTripAndReturn = (e : Equipment) → Sound e → Demand2 e (ruledBy e)
 
 abbrev pub OurEquipmentSound : Type 0
 OurEquipmentSound = Sound ourEquipment
+
+-- Demand 3, one claim about two whole lists. For every accepted sheet and every two lists of step calls, each call with the sheet's
+-- settings or with settings that 2 or 3 refuses, each list on its own record from a fresh board: the images saved after them
+-- (`savedInto`, the contract of `image::save`), each into a buffer that 9 lets pass, are equal byte for byte exactly when, for every
+-- common run of 0 to 100,000 accepted samples, the reports at its end, as the accepted samples alone give them, are equal in every item.
+abbrev pub OurTwoHistories : Type 0
+OurTwoHistories = Demand3 ourEquipment ours
+
+abbrev pub AnyTwoHistories : Type 0
+AnyTwoHistories = (e : Equipment) → Sound e → Demand3 e (ruledBy e)
 
 -- The sham boards of document 01 do not meet demand 2.
 pub record ShamsCaught : Type 0 where

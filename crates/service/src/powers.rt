@@ -6,11 +6,11 @@ ghost use Rattle.rules.specs.Samples.{Slice};
 ghost use Rattle.rules.specs.Regions.{ourEquipment};
 ghost use Rattle.rules.specs.Service.{varsOf, wattsOf};
 ghost use Rattle.readings.specs.Readings.{readingOf, Exportable};
-use readings::reading::Reading;
-use readings::reading::least;
 use power::volt_var;
 use power::volt_watt;
 use power::within_nameplate;
+use readings::reading::Reading;
+use readings::reading::least;
 use rules::Settings;
 
 pub struct Powers {

@@ -8,7 +8,7 @@ use borrow.Author.Tests.{le-leb, lt-leb}
 use Rattle.rules.specs.Tests.{within}
 use Rattle.rules.specs.Service.{varsOf, wattsOf}
 use Rattle.power.specs.Points.{Rises}
-use Rattle.service.proofs.Curves.{var-rises, watt-rises, watt-not-negatives}
+use Rattle.laws.proofs.Curves.{var-rises, watt-rises, watt-not-negatives}
 use Rattle.service.proofs.Stepping.{kept32, vars-are, watts-are}
 use borrow.Author.Needs.{needs}
 use Rattle.service.proofs.powers.powers_in.Statement.{statement}
