@@ -3,10 +3,10 @@
 use Rattle.rules.specs.Regions.{ourEquipment}
 use Rattle.laws.proofs.Demand2.{demand2}
 use Rattle.laws.proofs.Demand3.{demand3}
-use Rattle.demands.specs.Demands.{OurTripAndReturn, AnyTripAndReturn, OurEquipmentSound, OurTwoHistories, AnyTwoHistories, ShamsCaught, StarredEdges}
+use Rattle.demands.specs.Demands.{OurTripAndReturn, AnyTripAndReturn, OurEquipmentSound, OurTwoHistories, AnyTwoHistories, ShamsCaught, ShamImagesCaught, StarredEdges}
 use Rattle.demands.proofs.Edges.{edges-hold}
 use Rattle.demands.proofs.Sound.{our-equipment-sound}
-use Rattle.demands.proofs.Shams.{early, invented, tripped, repeated, kept}
+use Rattle.demands.proofs.Shams.{early, invented, tripped, repeated, kept, no-ramp, no-ninth}
 
 pub anyTripAndReturn : AnyTripAndReturn
 anyTripAndReturn e sound = demand2 e sound
@@ -25,6 +25,9 @@ ourTwoHistories = demand3 ourEquipment our-equipment-sound
 
 pub shamsCaught : ShamsCaught
 shamsCaught = record { early = early; invented = invented; tripped = tripped; repeated = repeated; kept = kept }
+
+pub shamImagesCaught : ShamImagesCaught
+shamImagesCaught = record { ramp = no-ramp; ninth = no-ninth }
 
 pub starredEdges : StarredEdges
 starredEdges = edges-hold

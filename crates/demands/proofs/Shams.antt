@@ -7,7 +7,7 @@ use mathlib.Core.List.{List, [], _∷_}
 use Prim.Native.Nat.{ℕ}
 use native.Mathlib.Omega.{arith}
 use lib.IntN.{pos, negℤ}
-use lib.ListN.{getD}
+use lib.ListN.{getD, replicate}
 use Rattle.rules.specs.Tests.{all, any, within}
 use Rattle.rules.specs.Sensing.{largest, voltage}
 use Rattle.rules.specs.Settings.{rows, inRow, rising, checkFrom, linesOf, settingsCheck, settingsAccepted}
@@ -16,7 +16,8 @@ use Rattle.rules.specs.Counters.{broken, inRange}
 use Rattle.rules.specs.Regions.{voltageRegion, frequencyRegion, regionOf, ourEquipment}
 use Rattle.rules.specs.Curves.{curveFrom, curve, nameplate}
 use Rattle.rules.specs.Service.{varsOf, wattsOf}
-use Rattle.rules.specs.Reports.{reportOf}
+use Rattle.rules.specs.Reports.{Items, reportOf}
+use Rattle.rules.specs.Images.{twoBytes, fourBytes, allInFour, image, savedInto}
 use Rattle.rules.specs.Records.{fresh, each, readAs, settled, ruled, next, shown, stepOf}
 use Rattle.rules.specs.History.{streak, serving, climbed, historyStatus, historyShare, historyWatts, historyVars, historyReport}
 use Rattle.rules.specs.declared.Limit.{Limit}
@@ -24,9 +25,10 @@ use Rattle.rules.specs.declared.Point.{Point}
 use Rattle.rules.specs.declared.Settings.{Settings}
 use Rattle.rules.specs.declared.Board.{Board}
 use Rattle.rules.specs.declared.Report.{Report}
-use Rattle.claims.specs.Calls.{Call}
+use Rattle.claims.specs.Calls.{Call, ruledBy}
 use Rattle.claims.specs.TripAndReturn.{recordOf, Demand2}
-use Rattle.demands.specs.Shams.{tripsEarly, inventsCounters, alwaysTripped, repeatsFirst, keepsRecord}
+use Rattle.claims.specs.TwoHistories.{Demand3By}
+use Rattle.demands.specs.Shams.{tripsEarly, inventsCounters, alwaysTripped, repeatsFirst, keepsRecord, savedWithoutRamp, savedWithoutNinth}
 
 abbrev limit : ℕ → ℕ → Limit
 limit level clearing = record { level = level; clearing = clearing }
@@ -34,9 +36,9 @@ limit level clearing = record { level = level; clearing = clearing }
 abbrev point : ℕ → lib.IntN.ℤ → Point
 point v p = record { volts = v; power = p }
 
--- document 01's default sheet with `(enter (wait 0 100))`
-abbrev quick : Settings
-quick =
+-- document 01's default sheet with a ramp of 100 steps and this wait
+abbrev sheet : ℕ → Settings
+sheet wait =
     record {
       trip =
           limit 8800 2100
@@ -50,11 +52,14 @@ quick =
           ∷ [];
       volts = record { low = 9170; high = 10500 };
       hertz = record { low = 59500; high = 60100 };
-      wait = 0;
+      wait = wait;
       ramp = 100;
       var = point 9200 (pos 4400) ∷ point 9800 (pos 0) ∷ point 10200 (pos 0) ∷ point 10800 (negℤ (pos 4400)) ∷ [];
       watt = point 10600 (pos 10000) ∷ point 11000 (pos 2000) ∷ [];
     }
+
+abbrev quick : Settings
+quick = sheet 0
 
 quick-accepted : settingsAccepted quick ≡ true
 unfolding all rows inRow rising checkFrom linesOf settingsCheck
@@ -99,4 +104,34 @@ pub kept : ¬ Demand2 ourEquipment keepsRecord
 unfolding keepsRecord all any within largest voltage rows inRow rising checkFrom linesOf settingsCheck sampleCheck broken inRange voltageRegion frequencyRegion regionOf curveFrom curve nameplate varsOf wattsOf reportOf fresh each readAs settled ruled next shown stepOf streak serving climbed historyStatus historyShare historyWatts historyVars historyReport
 kept d =
     let e : _≡_ {A = ℕ} 0 100 = ap (λ (r : Report). r .share) (d quick quick-accepted .shows (calm ∷ calm ∷ []) (inl refl, (inl refl, tt))) in
+    omega arith
+
+-- ---- sham images
+
+-- a buffer that 9 lets pass
+abbrev buffer : List ℕ
+buffer = replicate 45 0
+
+-- a sample at nominal with no power available, so that the ramp shows in the share alone
+abbrev idle : ℕ → Call
+idle wait = record { settings = sheet wait; slice = 1000 ∷ 1000 ∷ 1000 ∷ 60000 ∷ 1 ∷ 0 ∷ 0 ∷ [] }
+
+-- two ramp counts, one image: the shares differ at once
+pub no-ramp : ¬ Demand3By savedWithoutRamp (historyReport ourEquipment) (ruledBy ourEquipment)
+unfolding savedWithoutRamp savedInto image allInFour fourBytes twoBytes all any within largest voltage rows inRow rising checkFrom linesOf settingsCheck sampleCheck broken inRange voltageRegion frequencyRegion regionOf curveFrom curve nameplate varsOf wattsOf reportOf fresh each readAs settled ruled next shown stepOf streak serving climbed historyStatus historyShare historyWatts historyVars historyReport
+no-ramp d =
+    let f = d quick quick-accepted (idle 0 ∷ idle 0 ∷ []) (idle 0 ∷ idle 0 ∷ idle 0 ∷ []) (inl refl, (inl refl, tt)) (inl refl, (inl refl, (inl refl, tt))) buffer buffer (omega arith) (omega arith) .0 refl in
+    let e : _≡_ {A = ℕ} 100 200 = ap (λ (r : Items). r .share) (f [] (omega arith) tt) in
+    omega arith
+
+slow-accepted : settingsAccepted (sheet 2) ≡ true
+unfolding all rows inRow rising checkFrom linesOf settingsCheck
+slow-accepted = refl
+
+-- two counts of a wait of 2, one image: after one sample more one board is in service
+pub no-ninth : ¬ Demand3By savedWithoutNinth (historyReport ourEquipment) (ruledBy ourEquipment)
+unfolding savedWithoutNinth savedInto image allInFour fourBytes twoBytes all any within largest voltage rows inRow rising checkFrom linesOf settingsCheck sampleCheck broken inRange voltageRegion frequencyRegion regionOf curveFrom curve nameplate varsOf wattsOf reportOf fresh each readAs settled ruled next shown stepOf streak serving climbed historyStatus historyShare historyWatts historyVars historyReport
+no-ninth d =
+    let f = d (sheet 2) slow-accepted [] (idle 2 ∷ []) tt (inl refl, tt) buffer buffer (omega arith) (omega arith) .0 refl in
+    let e : _≡_ {A = ℕ} 0 1 = ap (λ (r : Items). r .status) (f ((idle 2 .slice) ∷ []) (omega arith) (refl, tt)) in
     omega arith

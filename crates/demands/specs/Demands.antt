@@ -5,12 +5,13 @@
 -- Assumes nothing.
 use Rattle.rules.specs.Samples.{Equipment}
 use Rattle.rules.specs.Regions.{ourEquipment}
+use Rattle.rules.specs.History.{historyReport}
 use Rattle.claims.specs.Calls.{Program, ruledBy}
 use Rattle.claims.specs.Sound.{Sound}
 use Rattle.claims.specs.TripAndReturn.{Demand2}
-use Rattle.claims.specs.TwoHistories.{Demand3}
+use Rattle.claims.specs.TwoHistories.{Demand3By, Demand3}
 use Rattle.demands.specs.Edges.{EdgesHold}
-use Rattle.demands.specs.Shams.{tripsEarly, inventsCounters, alwaysTripped, repeatsFirst, keepsRecord}
+use Rattle.demands.specs.Shams.{tripsEarly, inventsCounters, alwaysTripped, repeatsFirst, keepsRecord, savedWithoutRamp, savedWithoutNinth}
 
 abbrev pub ours : Program
 ours = ruledBy ourEquipment
@@ -47,6 +48,11 @@ pub record ShamsCaught : Type 0 where
   pub tripped : ¬ Demand2 ourEquipment alwaysTripped
   pub repeated : ¬ Demand2 ourEquipment repeatsFirst
   pub kept : ¬ Demand2 ourEquipment keepsRecord
+
+-- Demand 3 fails for an image with 0 in the ramp count's place and for one with 0 in the ninth counter's.
+pub record ShamImagesCaught : Type 0 where
+  pub ramp : ¬ Demand3By savedWithoutRamp (historyReport ourEquipment) ours
+  pub ninth : ¬ Demand3By savedWithoutNinth (historyReport ourEquipment) ours
 
 -- The starred values at the edges: `EdgesHold`.
 abbrev pub StarredEdges : Type 0

@@ -26,7 +26,7 @@ use Rattle.rules.specs.declared.Board.{Board}
 use Rattle.claims.specs.Calls.{Call, Run, ruledBy, runOf, callAccepted, heardOne, heardAfter, heard, Under}
 use Rattle.claims.specs.Sound.{Sound}
 use Rattle.claims.specs.TripAndReturn.{countOf, recordOf}
-use Rattle.claims.specs.TwoHistories.{AllAccepted, Agree, savedImage, TwoHistories, Demand3}
+use Rattle.claims.specs.TwoHistories.{AllAccepted, Agree, TwoHistoriesBy, Demand3}
 use Rattle.power.proofs.CurveLaws.{curve-small}
 use Rattle.power.proofs.PointLists.{powers-small}
 use Rattle.laws.proofs.Bools.{both}
@@ -130,7 +130,7 @@ module _ (e : Equipment) (sound : Sound e) (st : Settings) (ok : settingsAccepte
   -- ---- the image saved after a list of calls
 
   saved-is : (cs : List Call) → Under st cs → (buffer : List ℕ) → imageLength ≤ length buffer
-      → savedImage (runOf (ruledBy e) cs .board) buffer ≡ image (recordOf e st (heard cs))
+      → take imageLength (savedInto (runOf (ruledBy e) cs .board) buffer) ≡ image (recordOf e st (heard cs))
   unfolding savedInto
   saved-is cs u buffer room =
       rw (le-leb imageLength (length buffer) room, ap (λ (r : Run). r .board) (run-is e st ok cs u))
@@ -139,7 +139,7 @@ module _ (e : Equipment) (sound : Sound e) (st : Settings) (ok : settingsAccepte
       long : length (image (recordOf e st (heard cs))) ≡ imageLength
       long = image-length (recordOf e st (heard cs)) (ap length (counters-are e st (heard cs)))
 
-  two-histories : TwoHistories e (ruledBy e) st
+  two-histories : TwoHistoriesBy savedInto (historyReport e) (ruledBy e) st
   two-histories ps qs up uq a b ra rb =
       let fp = record-fits (heard ps) (heard-accepted ps [] tt) in
       let fq = record-fits (heard qs) (heard-accepted qs [] tt) in (
