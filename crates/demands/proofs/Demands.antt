@@ -6,7 +6,7 @@ use Rattle.laws.proofs.Demand3.{demand3}
 use Rattle.demands.specs.Demands.{OurTripAndReturn, AnyTripAndReturn, OurEquipmentSound, OurTwoHistories, AnyTwoHistories, ShamsCaught, ShamImagesCaught, StarredEdges}
 use Rattle.demands.proofs.Edges.{edges-hold}
 use Rattle.demands.proofs.Sound.{our-equipment-sound}
-use Rattle.demands.proofs.Shams.{early, invented, tripped, repeated, kept, no-ramp, no-ninth}
+use Rattle.demands.proofs.Shams.{early, invented, tripped, repeated, kept, no-ramp, no-ninth, no-bits}
 
 pub anyTripAndReturn : AnyTripAndReturn
 anyTripAndReturn e sound = demand2 e sound
@@ -27,7 +27,7 @@ pub shamsCaught : ShamsCaught
 shamsCaught = record { early = early; invented = invented; tripped = tripped; repeated = repeated; kept = kept }
 
 pub shamImagesCaught : ShamImagesCaught
-shamImagesCaught = record { ramp = no-ramp; ninth = no-ninth }
+shamImagesCaught = record { ramp = no-ramp; ninth = no-ninth; bits = no-bits }
 
 pub starredEdges : StarredEdges
 starredEdges = edges-hold

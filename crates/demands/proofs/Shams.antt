@@ -1,7 +1,7 @@
 -- Each sham board is caught by demand 2: a list of one or two calls, on which antt computes what it shows and what a board must show.
 -- Assumes nothing.
 use mathlib.Core.Path.{_≡_, refl, ap}
-use mathlib.Core.Bool.{true}
+use mathlib.Core.Bool.{true, false}
 use mathlib.Core.Logic.{inl}
 use mathlib.Core.List.{List, [], _∷_}
 use Prim.Native.Nat.{ℕ}
@@ -28,7 +28,8 @@ use Rattle.rules.specs.declared.Report.{Report}
 use Rattle.claims.specs.Calls.{Call, ruledBy}
 use Rattle.claims.specs.TripAndReturn.{recordOf, Demand2}
 use Rattle.claims.specs.TwoHistories.{Demand3By}
-use Rattle.demands.specs.Shams.{tripsEarly, inventsCounters, alwaysTripped, repeatsFirst, keepsRecord, savedWithoutRamp, savedWithoutNinth}
+use Rattle.demands.specs.Shams.{tripsEarly, inventsCounters, alwaysTripped, repeatsFirst, keepsRecord, savedWithoutRamp, savedWithoutNinth, reportWithoutBits}
+use Rattle.demands.proofs.ShamReport.{agree-without-bits}
 
 abbrev limit : ℕ → ℕ → Limit
 limit level clearing = record { level = level; clearing = clearing }
@@ -134,4 +135,22 @@ unfolding savedWithoutNinth savedInto image allInFour fourBytes twoBytes all any
 no-ninth d =
     let f = d (sheet 2) slow-accepted [] (idle 2 ∷ []) tt (inl refl, tt) buffer buffer (omega arith) (omega arith) .0 refl in
     let e : _≡_ {A = ℕ} 0 1 = ap (λ (r : Items). r .status) (f ((idle 2 .slice) ∷ []) (omega arith) (refl, tt)) in
+    omega arith
+
+-- ---- a sham report
+
+-- all phases at 0, with permission off
+abbrev dark : Call
+dark = record { settings = quick; slice = 0 ∷ 0 ∷ 0 ∷ 60000 ∷ 0 ∷ 0 ∷ 0 ∷ [] }
+
+dark-out : inRange ourEquipment quick (dark .slice) ≡ false
+unfolding inRange all
+dark-out = refl
+
+-- uv1's counter stands at 1 in one image and at 0 in the other, and without bits no run tells it
+pub no-bits : ¬ Demand3By savedInto reportWithoutBits (ruledBy ourEquipment)
+unfolding savedInto image allInFour fourBytes twoBytes all any within largest voltage rows inRow rising checkFrom linesOf settingsCheck sampleCheck broken inRange voltageRegion frequencyRegion regionOf curveFrom curve nameplate varsOf wattsOf reportOf fresh each readAs settled ruled next shown stepOf streak serving climbed historyStatus historyShare historyWatts historyVars historyReport
+no-bits d =
+    let same = d quick quick-accepted [] (dark ∷ []) tt (inl refl, tt) buffer buffer (omega arith) (omega arith) .1 (agree-without-bits quick quick-accepted (dark .slice) dark-out) in
+    let e : _≡_ {A = ℕ} 0 1 = ap (λ (bytes : List ℕ). getD bytes 4 0) same in
     omega arith

@@ -6,12 +6,13 @@
 use Rattle.rules.specs.Samples.{Equipment}
 use Rattle.rules.specs.Regions.{ourEquipment}
 use Rattle.rules.specs.History.{historyReport}
+use Rattle.rules.specs.Images.{savedInto}
 use Rattle.claims.specs.Calls.{Program, ruledBy}
 use Rattle.claims.specs.Sound.{Sound}
 use Rattle.claims.specs.TripAndReturn.{Demand2}
 use Rattle.claims.specs.TwoHistories.{Demand3By, Demand3}
 use Rattle.demands.specs.Edges.{EdgesHold}
-use Rattle.demands.specs.Shams.{tripsEarly, inventsCounters, alwaysTripped, repeatsFirst, keepsRecord, savedWithoutRamp, savedWithoutNinth}
+use Rattle.demands.specs.Shams.{tripsEarly, inventsCounters, alwaysTripped, repeatsFirst, keepsRecord, savedWithoutRamp, savedWithoutNinth, reportWithoutBits}
 
 abbrev pub ours : Program
 ours = ruledBy ourEquipment
@@ -49,10 +50,12 @@ pub record ShamsCaught : Type 0 where
   pub repeated : ¬ Demand2 ourEquipment repeatsFirst
   pub kept : ¬ Demand2 ourEquipment keepsRecord
 
--- Demand 3 fails for an image with 0 in the ramp count's place and for one with 0 in the ninth counter's.
+-- Demand 3 fails for an image with 0 in the ramp count's place, for one with 0 in the ninth counter's, and for a report whose bits
+-- are always 0.
 pub record ShamImagesCaught : Type 0 where
   pub ramp : ¬ Demand3By savedWithoutRamp (historyReport ourEquipment) ours
   pub ninth : ¬ Demand3By savedWithoutNinth (historyReport ourEquipment) ours
+  pub bits : ¬ Demand3By savedInto reportWithoutBits ours
 
 -- The starred values at the edges: `EdgesHold`.
 abbrev pub StarredEdges : Type 0
