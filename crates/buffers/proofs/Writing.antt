@@ -1,6 +1,6 @@
 -- Writes into a buffer: the length is kept, two writes in a row are one, and stores and copies are writes.
 -- Assumes nothing.
-use mathlib.Core.Path.{_≡_, refl, sym, ap, _∙_}
+use mathlib.Core.Path.{_≡_, sym, ap, _∙_}
 use mathlib.Core.List.{List, [], _∷_, _++_, append-assoc, append-nil}
 use Prim.Native.Nat.{ℕ, suc, _+_, _≤_, _<_}
 use native.Mathlib.Nat.{add-assoc, add-zero}
@@ -14,6 +14,11 @@ use Rattle.buffers.specs.Written.{written, Wrote}
 pub copy-all : (d : List ℕ) (at : ℕ) (x : List ℕ) → paste d at x (length x) ≡ written d at x
 unfolding written
 copy-all d at x = rw take-length
+
+-- one byte more of a copy of x
+pub copy-more : (d : List ℕ) (at : ℕ) (x : List ℕ) (i : ℕ) {place : ℕ} {d′ : List ℕ} → at + i < length d → i < length x
+    → place ≡ at + i → d′ ≡ paste d at x i → set d′ place (getD x i 0) ≡ paste d at x (i + 1)
+copy-more d at x i h below e copied = rw (e, copied, add-one) (paste-suc d at x i 0 h below)
 
 -- stores of x, byte by byte, are a write of x
 pub stores : (d : List ℕ) (at : ℕ) (x : List ℕ) → at + length x ≤ length d → sets d at x ≡ written d at x
@@ -51,18 +56,23 @@ module _ (d : List ℕ) (at : ℕ) (x : List ℕ) (h : at + length x ≤ length 
   unfolding written
   written-then y = rw (head, tail, append-assoc (take at d) x y, length-append, add-assoc)
 
-pub write-then : (d : List ℕ) (at : ℕ) (x y : List ℕ) {d₁ d₂ : List ℕ} {p : ℕ} → p ≡ at + length x → at + length x ≤ length d → d₁ ≡ written d at x → d₂ ≡ written d₁ p y → d₂ ≡ written d at (x ++ y)
+pub write-then : (d : List ℕ) (at : ℕ) (x y : List ℕ) {d₁ d₂ : List ℕ} {p : ℕ}
+    → p ≡ at + length x → at + length x ≤ length d → d₁ ≡ written d at x → d₂ ≡ written d₁ p y → d₂ ≡ written d at (x ++ y)
 write-then d at x y e h w₁ w₂ = w₂ ∙ rw (e, w₁) (written-then d at x h y)
 
-pub and-then : {d x y d₁ d₂ : List ℕ} {at r₁ r₂ : ℕ} → at + length x ≤ length d → Wrote d at d₁ r₁ x → Wrote d₁ r₁ d₂ r₂ y → Wrote d at d₂ r₂ (x ++ y)
-and-then {d} {x} {y} {at = at} h w₁ w₂ =
+pub and-then : {d x y d₁ d₂ : List ℕ} {at r₁ r₂ : ℕ} → Wrote d at d₁ r₁ x → Wrote d₁ r₁ d₂ r₂ y → Wrote d at d₂ r₂ (x ++ y)
+and-then {d} {x} {y} {at = at} w₁ w₂ =
+    let room : at + length x ≤ length d = omega (arith, w₁ .after, w₁ .inside) in
     record {
       after = omega (arith, length-append x y, w₁ .after, w₂ .after);
-      bytes = write-then d at x y (w₁ .after) h (w₁ .bytes) (w₂ .bytes);
+      inside = omega (arith, w₂ .inside, ap length (w₁ .bytes), length-written d at x room);
+      bytes = write-then d at x y (w₁ .after) room (w₁ .bytes) (w₂ .bytes);
     }
 
--- the last byte stored before the others are written
-pub last-first : (d : List ℕ) (at : ℕ) (x : List ℕ) (b : ℕ) → at + length x < length d → written (set d (at + length x) b) at x ≡ written d at (x ++ (b ∷ []))
+-- the last byte may be stored before the others are written
+pub last-first : (d : List ℕ) (at : ℕ) (x : List ℕ) (b : ℕ) {place : ℕ} → place ≡ at + length x → place < length d
+    → written (set d place b) at x ≡ written d at (x ++ (b ∷ []))
 unfolding written
-last-first d at x b h =
-    rw (take-set-le at d (at + length x) b (omega arith), drop-set d (at + length x) b h, ← append-assoc (take at d) x (b ∷ []), length-append, ← add-assoc, add-one, append-snoc)
+last-first d at x b {place} e h =
+    let tail = drop-set d place b h in
+    rw (← e, take-set-le at d place b (omega arith), tail, ← append-assoc (take at d) x (b ∷ []), length-append, ← add-assoc, ← e, add-one, append-snoc)

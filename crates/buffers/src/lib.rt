@@ -1,1 +1,1 @@
-// What a write into a lent buffer makes of it, and the laws of such writes. This crate has no code.
+// Laws of what is written into lent buffers: of the writes, and of the signed numbers written. This crate has no code.

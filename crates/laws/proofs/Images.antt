@@ -2,7 +2,7 @@
 -- Assumes nothing.
 use mathlib.Core.Path.{_≡_, refl, sym, ap, ap₂, _∙_}
 use mathlib.Core.List.{List, [], _∷_, _++_}
-use Prim.Native.Nat.{ℕ, zero, suc, _+_, _*_, _/_, _%_, _<_}
+use Prim.Native.Nat.{ℕ, _*_, _/_, _%_, _<_}
 use native.Mathlib.Nat.{suc-inj, div-div-eq-div-mul}
 use native.Mathlib.Omega.{arith}
 use lib.IntN.{ℤ, pos, negsuc}
@@ -117,5 +117,6 @@ image-inj b c f g e =
     let r₁ = all-in-four-inj (b .counters) (c .counters) (f .nine ∙ sym (g .nine)) (f .counts) (g .counts) _ _ (r₀ .1) in
     let r₂ = four-inj (b .ramp) (c .ramp) _ _ (f .ramps) (g .ramps) (r₁ .1) in
     let r₃ = two-inj (b .watts) (c .watts) _ _ (f .powers) (g .powers) (r₂ .1) in
-    let r₄ = two-inj (twosComplement (b .vars)) (twosComplement (c .vars)) [] [] (complement-below _ (f .signed)) (complement-below _ (g .signed)) (ap (λ (l : List ℕ). l ++ []) (r₃ .1)) in
+    let last = ap (λ (l : List ℕ). l ++ []) (r₃ .1) in
+    let r₄ = two-inj (twosComplement (b .vars)) (twosComplement (c .vars)) [] [] (complement-below _ (f .signed)) (complement-below _ (g .signed)) last in
     same-fields b c (r₀ .0) (r₁ .0) (r₂ .0) (r₃ .0) (complement-inj _ _ (f .signed) (g .signed) (r₄ .0))

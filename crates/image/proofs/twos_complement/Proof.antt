@@ -8,15 +8,13 @@ use borrow.Author.Tests.{ltb-true, le-ltb}
 use lib.IntN.{ℤ, pos, negsuc, _+ℤ_}
 use lib.Signed.{ltZ}
 use mir.Syntax.{w16, w32}
-use mir.Val.{SFits, toZ, ofZ}
+use mir.Val.{SFits}
 use mir.Facts.{toZ-ofZ, sfits-widen}
 use Rattle.rules.specs.Images.{twosComplement}
 use Rattle.laws.proofs.Images.{complement-below}
+use Rattle.buffers.proofs.Widening.{widened, widened-is}
 use Rattle.image.proofs.twos_complement.Statement.{statement}
 use Rattle.image.proofs.twos_complement.Tie as tie
-
-widened : (v : ℤ) → SFits w16 v → toZ w32 (ofZ w32 (toZ w16 (ofZ w16 v))) ≡ v
-widened v f = ap (λ (z : ℤ). toZ w32 (ofZ w32 z)) (toZ-ofZ f) ∙ toZ-ofZ (sfits-widen tt f)
 
 negative : (v : ℤ) → SFits w16 v → ltZ v (pos 0) ≡ true → pos 65536 +ℤ v ≡ pos (twosComplement v)
 negative (pos n) f e = let h = ltb-true n 0 e in absurd (omega arith)
@@ -30,11 +28,11 @@ module _ (v : ℤ) (f : SFits w16 v) where
   fits : SFits w32 (pos (twosComplement v))
   fits = record { sfits = omega (arith, complement-below v f) }
 
-  raised : ltZ (toZ w32 (ofZ w32 (toZ w16 (ofZ w16 v)))) (pos 0) ≡ true → pos 65536 +ℤ toZ w32 (ofZ w32 (toZ w16 (ofZ w16 v))) ≡ pos (twosComplement v)
-  raised e = rw (widened v f) (negative v f (rw (widened v f) at e))
+  raised : ltZ (widened v) (pos 0) ≡ true → pos 65536 +ℤ widened v ≡ pos (twosComplement v)
+  raised e = rw (widened-is v f) (negative v f (rw (widened-is v f) at e))
 
-  kept : ltZ (toZ w32 (ofZ w32 (toZ w16 (ofZ w16 v)))) (pos 0) ≡ false → toZ w32 (ofZ w32 (toZ w16 (ofZ w16 v))) ≡ pos (twosComplement v)
-  kept e = widened v f ∙ positive v (rw (widened v f) at e)
+  kept : ltZ (widened v) (pos 0) ≡ false → widened v ≡ pos (twosComplement v)
+  kept e = widened-is v f ∙ positive v (rw (widened-is v f) at e)
 
 cast-wide : tie.Need-cast-wide
 cast-wide c = rw (toZ-ofZ (c .fits .v)) (sfits-widen tt (c .fits .v))
