@@ -1,14 +1,14 @@
 -- A number of at most six digits is read exactly where it is written out, unsigned and by its mark.
 -- Assumes nothing.
-use mathlib.Core.Path.{_≡_, refl, sym, ap, _∙_, subst}
-use mathlib.Core.Bool.{Bool, true, false, cond, _&&_, _||_, false≢true}
+use mathlib.Core.Path.{_≡_, refl, sym, ap, _∙_}
+use mathlib.Core.Bool.{Bool, true, false, cond, _||_}
 use mathlib.Core.List.{List, [], _∷_, _++_, append-nil}
 use mathlib.Core.Option.{Option, none, some, Option·some-injective, Option·none-ne-some}
 use Prim.Native.Nat.{ℕ, zero, suc, _+_, _-_, _*_, _/_, _%_, _≤_, _<_}
 use native.Mathlib.Omega.{arith}
 use native.Mathlib.Decide.{decLe}
 use native.Mathlib.Nat.{zero-add}
-use borrow.Author.Tests.{lt-ltb, leb-true, le-leb, eqb-true, ne-eqb, eq-eqb}
+use borrow.Author.Tests.{lt-ltb, leb-true, le-leb, eqb-true, ne-eqb}
 use lib.Dec.{leb, ltb, eqb}
 use lib.IntN.{ℤ, pos, negsuc}
 use lib.ListN.{length, getD, length-append, List·getD-append}
@@ -138,6 +138,9 @@ decimal-numeral n h =
     let d = numeral 5 n (omega arith) in
     rw (d .value) at (decimal-back (d .digits) (d .are) (record { some = d .first; most = d .most; lead = d .lead }))
 
+pub decimal-digits : (n : ℕ) → n ≤ 999999 → AllDigits (decimal n)
+decimal-digits n h = rw (decimal-numeral n h) (numeral 5 n (omega arith) .are)
+
 pub decimal-length : (n : ℕ) → n ≤ 999999 → length (decimal n) ≤ 6
 decimal-length n h = rw (decimal-numeral n h) (numeral 5 n (omega arith) .most)
 
@@ -198,7 +201,7 @@ marked-written mark s t m e = by-mark (eqb mark numberMark) m e
     by-mark true m e = unsigned-marked mark s t e
     by-mark false m e = signed-marked mark s t m e
 
-signed-other : (b : ℕ) (s : List ℕ) → (b ≡ minus → ⊥) → takeSigned (b ∷ s) ≡ takeNumber (b ∷ s)
+pub signed-other : (b : ℕ) (s : List ℕ) → (b ≡ minus → ⊥) → takeSigned (b ∷ s) ≡ takeNumber (b ∷ s)
 unfolding takeSigned
 signed-other b s h = rw (ne-eqb b minus h)
 
