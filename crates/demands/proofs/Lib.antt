@@ -1,1 +1,4 @@
 pub mod Edges
+pub mod Sound
+pub mod Shams
+pub mod Demands

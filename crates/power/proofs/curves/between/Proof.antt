@@ -1,0 +1,33 @@
+-- `power::curves::between` meets its contract: each step fits, and is rule 7's number (`Steps.antt`).
+-- Assumes nothing.
+use native.Mathlib.Omega.{arith}
+use borrow.Author.Needs.{needs}
+use Rattle.power.proofs.Steps.{difference-fits, product-fits, quotient-fits, sum-fits, result-is}
+use Rattle.power.proofs.curves.between.Statement.{statement}
+use Rattle.power.proofs.curves.between.Tie as tie
+
+sub-result : tie.Need-sub-result
+sub-result c = difference-fits (c .args .left) (c .args .right) (c .args .distance) (c .args .gap) (c .pre)
+
+cast-result : tie.Need-cast-result
+cast-result c = search needs
+
+mul-result : tie.Need-mul-result
+mul-result c = product-fits (c .args .left) (c .args .right) (c .args .distance) (c .args .gap) (c .pre)
+
+cast-result-2 : tie.Need-cast-result-2
+cast-result-2 c = search needs
+
+div-result : tie.Need-div-result
+div-result c = (omega arith, quotient-fits (c .args .left) (c .args .right) (c .args .distance) (c .args .gap) (c .pre))
+
+add-result : tie.Need-add-result
+add-result c = sum-fits (c .args .left) (c .args .right) (c .args .distance) (c .args .gap) (c .pre)
+
+returns : tie.Need-returns
+returns c = result-is (c .args .left) (c .args .right) (c .args .distance) (c .args .gap) (c .pre)
+
+pub between-spec : {M : Type 1} → statement M
+between-spec =
+    tie.close
+    (tie.spec sub-result cast-result mul-result cast-result-2 div-result add-result returns)

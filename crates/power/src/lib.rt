@@ -1,0 +1,8 @@
+// Document 01, rules 7 and 8: the volt-var and volt-watt curves, and the watts that the nameplate leaves beside vars.
+mod curves;
+mod rating;
+
+pub use curves::volt_var;
+pub use curves::volt_watt;
+pub use rating::nameplate;
+pub use rating::within_nameplate;

@@ -1,0 +1,3 @@
+pub mod Largest
+pub mod Roots
+pub mod Voltages

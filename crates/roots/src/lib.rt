@@ -1,0 +1,1 @@
+// Laws of the voltages and of whole roots, in proofs/. This crate has no code.

@@ -1,0 +1,38 @@
+// Document 01, "Sensing": a mean-square code to a voltage, in ten-thousandths of nominal.
+ghost use mathlib.Core.Path.{_≡_};
+ghost use Prim.Native.Nat.{_<_};
+ghost use Rattle.rules.specs.Sensing.{voltage, sensed};
+ghost use Rattle.sensing.specs.Tables.{IsTable};
+
+mod entries;
+
+use entries::VOLTS;
+use rules::Refusal;
+use rules::Sensed;
+
+// The table of 4,096 entries. A caller makes it once and lends it. No other function names the constant.
+pub fn table() -> [u16; 4096]
+    ensures { λ t. ⌜ IsTable t ⌝ }
+{
+    VOLTS
+}
+
+// The voltage of a code of the table.
+pub fn volts(table: &[u16; 4096], code: u32) -> u16
+    requires { ⌜ (IsTable (now table)) × (code < 4096) ⌝ }
+    ensures { λ r. ⌜ r ≡ voltage code ⌝ }
+{
+    table[code as usize]
+}
+
+// The voltage of any code: one above the table is refused, and never given the last entry.
+pub fn sense(code: u32) -> Sensed
+    ensures { λ r. ⌜ r ≡ sensed code ⌝ }
+{
+    if code < 4096 {
+        let t = table();
+        Sensed::Volts(volts(&t, code))
+    } else {
+        Sensed::Refused(Refusal::Code)
+    }
+}

@@ -1,0 +1,4 @@
+pub mod Counting
+pub mod Bits
+pub mod Curves
+pub mod Stepping

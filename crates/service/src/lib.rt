@@ -1,0 +1,9 @@
+// The by-value step: document 01, "One sample". Its public operations are `fresh` and `step`.
+pub mod counters;
+pub mod powers;
+pub mod reading;
+pub mod regions;
+pub mod step;
+
+pub use step::fresh;
+pub use step::step_accepted;

@@ -1,0 +1,72 @@
+-- One more turn of each loop, and its end: the range check and the rise along a line, and the lines in order.
+-- Assumes nothing.
+use mathlib.Core.Path.{_≡_, refl}
+use mathlib.Core.Bool.{Bool, true, _&&_}
+use mathlib.Core.List.{List, [], _∷_, map}
+use Prim.Native.Nat.{ℕ, suc, _+_, _<_, _≤_}
+use native.Mathlib.Numerals.{add-one}
+use native.Mathlib.Omega.{arith}
+use lib.IntN.{pos}
+use lib.ListN.{length, getD, drop, length-drop, drop-of-length-le}
+use lib.Seq.{drop-cons}
+use lib.Signed.{ltZ}
+use Rattle.rules.specs.Tests.{all}
+use Rattle.rules.specs.Settings.{Pair, pair, row, rows, rising, lineCheck, checkFrom, linesOf}
+use Rattle.rules.specs.declared.Settings.{Settings}
+use Rattle.rules.specs.declared.SettingsCheck.{SettingsCheck}
+use Rattle.settings.specs.Rows.{rowAt}
+use Rattle.settings.specs.Lines.{lineAt}
+
+abbrev at : List Pair → ℕ → Pair
+at l k = getD l k (pair (pos 0) (pos 0))
+
+-- ---- along a line
+
+module _ (l : List Pair) (k : ℕ) where
+  pub range-more : (f : Pair → Bool) → k < length l → all (map f (drop k l)) ≡ (f (at l k) && all (map f (drop (k + 1) l)))
+  unfolding all
+  range-more f h = rw (add-one, drop-cons l k (pair (pos 0) (pos 0)))
+
+  pub range-end : (f : Pair → Bool) → length l ≤ k → all (map f (drop k l)) ≡ true
+  unfolding all
+  range-end f h = rw (drop-of-length-le l h)
+
+  pub rise-more : suc k < length l → rising (drop k l) ≡ (ltZ (at l k .first) (at l (k + 1) .first) && rising (drop (k + 1) l))
+  unfolding rising
+  rise-more h =
+      let here : k < length l = omega arith in
+      rw (add-one, drop-cons l k (pair (pos 0) (pos 0)), drop-cons l (suc k) (pair (pos 0) (pos 0)))
+
+short : (l : List Pair) → length l ≤ 1 → rising l ≡ true
+unfolding rising
+short [] h = refl
+short (p ∷ []) h = refl
+short (p ∷ q ∷ l) h = absurd (omega arith)
+
+pub rise-end : (l : List Pair) (k : ℕ) → length l ≤ k + 1 → rising (drop k l) ≡ true
+rise-end l k h = short (drop k l) (simp length-drop (omega arith))
+
+-- ---- the lines in order
+
+rows-long : length rows ≡ 13
+unfolding rows
+rows-long = refl
+
+lines-long : (s : Settings) → length (linesOf s) ≡ 13
+unfolding linesOf
+lines-long s = refl
+
+-- what the lines from line i on find, i counted from 0
+abbrev pub from : Settings → ℕ → SettingsCheck
+from s i = checkFrom (i + 1) (drop i rows) (drop i (linesOf s))
+
+pub line-more : (s : Settings) (i : ℕ) → i < 13 → from s i ≡ lineCheck (rowAt i) (lineAt s i) (from s (i + 1)) (λ cause. SettingsCheck.Refused cause (i + 1))
+unfolding checkFrom
+line-more s i h =
+    let r : i < length rows = omega (arith, rows-long) in
+    let l : i < length (linesOf s) = omega (arith, lines-long s) in
+    rw (drop-cons rows i (row 0 0 0 0), drop-cons (linesOf s) i [], add-one (i + 1), add-one i)
+
+pub line-end : (s : Settings) (i : ℕ) → 13 ≤ i → from s i ≡ SettingsCheck.Accepted
+unfolding checkFrom
+line-end s i h = rw (drop-of-length-le rows {i = i} (omega (arith, rows-long)))

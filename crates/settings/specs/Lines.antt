@@ -1,0 +1,25 @@
+-- The lines of settings and their pairs by place, both counted from 0.
+-- Assumes nothing.
+use mathlib.Core.Bool.{cond}
+use mathlib.Core.List.{List, []}
+use Prim.Native.Nat.{ℕ}
+use lib.Dec.{eqb}
+use lib.IntN.{pos}
+use lib.ListN.{getD}
+use Rattle.rules.specs.Settings as rules
+use Rattle.rules.specs.Settings.{pair, linesOf}
+use Rattle.rules.specs.declared.Settings.{Settings}
+use Rattle.settings.specs.declared.lines.Pair.{Pair}
+
+abbrev pub pairOf : Pair → rules.Pair
+pairOf p = pair (p .first) (p .second)
+
+abbrev pub lineAt : Settings → ℕ → List rules.Pair
+lineAt s i = getD (linesOf s) i []
+
+abbrev pub pairAt : Settings → ℕ → ℕ → rules.Pair
+pairAt s i k = getD (lineAt s i) k (pair (pos 0) (pos 0))
+
+-- how many pairs line i has
+abbrev pub pairsIn : ℕ → ℕ
+pairsIn i = cond (eqb i 11) 4 (cond (eqb i 12) 2 1)
