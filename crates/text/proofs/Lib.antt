@@ -6,6 +6,6 @@ pub mod Matching
 pub mod Cuts
 pub mod Made
 pub mod Whole
-pub mod Signless
 pub mod Ended
 pub mod Samples
+pub mod Signs

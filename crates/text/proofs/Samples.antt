@@ -15,29 +15,19 @@ use Rattle.rules.specs.Forms.{sampleForm, numbersOf}
 use Rattle.formats.specs.Marks.{marks}
 use Rattle.formats.proofs.Forms.{line-written, suits-length}
 use Rattle.text.specs.Forms.{Formed, takeForm}
-use Rattle.text.specs.Places.{Unsigned, padded, MatchAt}
+use Rattle.text.specs.Places.{padded, MatchAt}
 use Rattle.text.specs.Lines.{numbersRead, sampleRead, endedSample, sampleAt}
 use Rattle.text.specs.declared.form.Match.{Match}
 use Rattle.text.proofs.Whole.{whole, numbers-whole}
-use Rattle.text.proofs.Signless.{signless, suits-unsigned, zeros-unsigned, padded-unsigned}
 use Rattle.text.proofs.Ended.{lineForm, form-line, form-plain, rest-feed, rest-length}
 
--- ---- seven numbers, none negative
+-- ---- seven numbers
 
-module _ (line : List ℕ) (ns : List ℤ) (e : numbersOf sampleForm line ≡ some ns) where
-  pub sample-unsigned : Unsigned (padded ns)
-  unfolding sampleForm signless
-  sample-unsigned = padded-unsigned ns (8 - length ns) (suits-unsigned sampleForm ns refl (line-written sampleForm line ns e .suit))
-
-  pub sample-seven : take 7 (padded ns) ≡ ns
-  unfolding sampleForm marks
-  sample-seven = take-at ns (replicate (8 - length ns) (pos 0)) 7 (suits-length sampleForm ns (line-written sampleForm line ns e .suit))
+pub sample-seven : (line : List ℕ) (ns : List ℤ) → numbersOf sampleForm line ≡ some ns → take 7 (padded ns) ≡ ns
+unfolding sampleForm marks
+sample-seven line ns e = take-at ns (replicate (8 - length ns) (pos 0)) 7 (suits-length sampleForm ns (line-written sampleForm line ns e .suit))
 
 -- ---- of a whole line
-
-pub read-unsigned : (line : List ℕ) (o : Option (List ℤ)) → numbersOf sampleForm line ≡ o → Unsigned (numbersRead o .n)
-read-unsigned line none e = zeros-unsigned 8
-read-unsigned line (some ns) e = sample-unsigned line ns e
 
 pub read-sample : (line : List ℕ) (o : Option (List ℤ)) → numbersOf sampleForm line ≡ o
     → record { found = numbersRead o .found; slice = map natAbs (take 7 (numbersRead o .n)) } ≡ sampleRead o

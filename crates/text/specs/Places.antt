@@ -6,8 +6,7 @@ use mathlib.Core.List.{List, _++_}
 use mathlib.Core.Option.{Option, none, some}
 use Prim.Native.Nat.{ℕ, _+_, _-_, _≤_, min}
 use lib.IntN.{ℤ, pos, natAbs}
-use lib.ListN.{length, getD, drop, replicate}
-use lib.Signed.{nonNeg}
+use lib.ListN.{length, drop, replicate}
 use Rattle.rules.specs.Text.{Taken, leadingDigits, afterDigits, valueAfter}
 use Rattle.text.specs.Forms.{Formed}
 use Rattle.text.specs.declared.number.Digits.{Digits}
@@ -30,10 +29,6 @@ pub record NumberAt (o : Option Taken) (s : List ℕ) (r : Number) : Type 0 wher
   pub same : o ≡ cond (r .found) (some (record { value = r .value; rest = drop (r .next) s })) none
   pub inside : r .next ≤ length s
   pub small : natAbs (r .value) ≤ 999999
-
--- none of the numbers is negative
-abbrev pub Unsigned : List ℤ → Type 0
-Unsigned ns = (i : ℕ) → nonNeg (getD ns i (pos 0)) ≡ true
 
 -- numbers followed by zeros
 abbrev pub padded : List ℤ → List ℤ

@@ -1,16 +1,14 @@
 // Document 01, "The sheet" and "Image and program": lines, their forms, and the numbers in them.
 ghost use mathlib.Core.Path.{_≡_};
-ghost use mathlib.Core.Bool.{true};
 ghost use mathlib.Core.List.{map};
 ghost use Prim.Native.Nat.{_+_, _≤_, _<_};
 ghost use lib.Dec.{ltb};
 ghost use lib.IntN.{natAbs};
 ghost use lib.ListN.{length, take, drop};
-ghost use lib.Signed.{nonNeg};
 ghost use Rattle.rules.specs.Text.{firstLine, hasFeed};
 ghost use Rattle.rules.specs.Forms.{sampleForm, numbersOf};
 ghost use Rattle.text.specs.Forms.{formAt, takeForm};
-ghost use Rattle.text.specs.Places.{MatchAt, Unsigned};
+ghost use Rattle.text.specs.Places.{MatchAt};
 ghost use Rattle.text.specs.Lines.{numbersRead, sampleRead, sampleAt};
 
 mod form;
@@ -68,23 +66,26 @@ pub fn form_numbers(form: usize, line: &[u8]) -> Numbers
     Numbers { found: false, n }
 }
 
-fn unsigned(v: i32) -> u32
-    requires { ⌜ nonNeg v ≡ true ⌝ }
+// A number without its sign.
+pub fn magnitude(v: i32) -> u32
     ensures { λ r. ⌜ r ≡ natAbs v ⌝ }
 {
-    v as u32
+    if v < 0 {
+        (0 - (v as i64)) as u32
+    } else {
+        v as u32
+    }
 }
 
 // The first seven of a line's numbers, as a step takes them.
 fn sample_slice(n: [i32; 8]) -> [u32; 7]
-    requires { ⌜ Unsigned n ⌝ }
     ensures { λ r. ⌜ r ≡ map natAbs (take 7 n) ⌝ }
 {
     let mut slice = [0u32; 7];
     let mut i = 0;
     while i < 7 {
         let v = n[i];
-        slice[i] = unsigned(v);
+        slice[i] = magnitude(v);
         i += 1;
     }
     slice

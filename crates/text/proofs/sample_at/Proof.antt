@@ -4,7 +4,7 @@ use mathlib.Core.Path.{refl}
 use Rattle.rules.specs.Forms.{sheetForms, sampleForm}
 use lib.ListN.{drop}
 use Rattle.text.specs.Forms.{forms, takeForm}
-use Rattle.text.proofs.Samples.{sample-unsigned, at-feed, at-nothing, at-past, at-other, sample-found, sample-none}
+use Rattle.text.proofs.Samples.{at-feed, at-nothing, at-past, at-other, sample-found, sample-none}
 use borrow.Author.Needs.{needs}
 use Rattle.text.proofs.sample_at.Statement.{statement}
 use Rattle.text.proofs.sample_at.Tie as tie
@@ -19,12 +19,7 @@ add-t13 : tie.Need-add-t13
 add-t13 c = search needs
 
 sample-slice-requires : tie.Need-sample-slice-requires
-unfolding forms sheetForms
-sample-slice-requires c κs =
-    let b = c .before .before .before .before .before in
-    let a = b .before .before in
-    let e = at-feed (a .args .s .now) (a .args .at) (b .form-at .result) (a .pre) (takeForm sampleForm (drop (a .args .at) (a .args .s .now))) refl (b .form-at .ensures) (c .before .before .before .if1 .taken) (c .before .before .if2 .taken) (c .if3 .taken) in
-    rw (e .stored) (sample-unsigned _ (e .numbers) (e .line))
+sample-slice-requires c κs = search needs
 
 returns : tie.Need-returns
 unfolding forms sheetForms

@@ -3,7 +3,7 @@
 use mathlib.Core.Path.{refl}
 use Rattle.rules.specs.Forms.{sheetForms, sampleForm, numbersOf}
 use Rattle.text.specs.Forms.{forms}
-use Rattle.text.proofs.Samples.{read-unsigned, read-sample}
+use Rattle.text.proofs.Samples.{read-sample}
 use borrow.Author.Needs.{needs}
 use Rattle.text.proofs.sample_line.Statement.{statement}
 use Rattle.text.proofs.sample_line.Tie as tie
@@ -12,10 +12,7 @@ form-numbers-requires : tie.Need-form-numbers-requires
 form-numbers-requires c κs = search needs
 
 sample-slice-requires : tie.Need-sample-slice-requires
-unfolding forms sheetForms
-sample-slice-requires c κs =
-    let line = c .before .before .before .args .line .now in
-    rw (c .before .form-numbers .ensures) (read-unsigned line (numbersOf sampleForm line) refl)
+sample-slice-requires c κs = search needs
 
 returns : tie.Need-returns
 unfolding forms sheetForms

@@ -4,13 +4,14 @@ use mathlib.Core.Path.{_≡_, refl, sym, ap, _∙_}
 use mathlib.Core.List.{map}
 use Prim.Native.Nat.{_-_, _≤_}
 use native.Mathlib.Omega.{arith}
+use borrow.Author.Needs.{needs, sfits-of}
 use lib.IntN.{pos, natAbs}
 use lib.ListN.{length, getD, take, length-set}
 use lib.Seq.{take-all}
 use mir.Syntax.{w32}
 use mir.Facts.{toZ-ofZ}
 use Rattle.text.proofs.Slices.{stored-more}
-use borrow.Author.Needs.{needs, sfits-of}
+use borrow.Author.Needs.{needs}
 use Rattle.text.proofs.sample_slice.Statement.{statement}
 use Rattle.text.proofs.sample_slice.Tie as tie
 
@@ -29,8 +30,8 @@ mul-v c = search needs
 array-copy-out-v : tie.Need-array-copy-out-v Inv-loop μ-loop
 array-copy-out-v c = search needs
 
-unsigned-requires : tie.Need-unsigned-requires Inv-loop μ-loop
-unsigned-requires c κs = rw (toZ-ofZ (sfits-of {w = w32} (c .v .given))) (c .before .before .before .pre (c .before .before .loop .i))
+magnitude-requires : tie.Need-magnitude-requires Inv-loop μ-loop
+magnitude-requires c κs = search needs
 
 mul-slice : tie.Need-mul-slice Inv-loop μ-loop
 mul-slice c = search needs
@@ -50,7 +51,7 @@ loop-again c =
     let n = c .before .before .before .before .args .t1 in
     let eight : length n ≡ 8 = search needs in
     let same = ap natAbs (toZ-ofZ (sfits-of {w = w32} {z = getD n (l .i) (pos 0)} (c .before .v .given))) in
-    (stored-more n (l .slice) (l .i) (c .unsigned .result) (omega (arith, l .inv .2)) (omega arith) (l .inv .0) (c .unsigned .ensures ∙ same), omega arith, length-set (l .slice) (l .i) (c .unsigned .result) ∙ l .inv .2)
+    (stored-more n (l .slice) (l .i) (c .magnitude .result) (omega (arith, l .inv .2)) (omega arith) (l .inv .0) (c .magnitude .ensures ∙ same), omega arith, length-set (l .slice) (l .i) (c .magnitude .result) ∙ l .inv .2)
 
 returns : tie.Need-returns Inv-loop μ-loop
 returns c =
@@ -67,7 +68,7 @@ sample-slice-spec =
     loop-holds
     mul-v
     array-copy-out-v
-    unsigned-requires
+    magnitude-requires
     mul-slice
     array-write-slice
     add-i
