@@ -17,8 +17,8 @@ mod table;
 
 use form::Match;
 use form::match_at;
-use table::FORMS;
-use table::STARTS;
+use table::form_bytes;
+use table::form_starts;
 
 // The place of the first line feed from a place on, or the end.
 pub fn line_end(s: &[u8], from: usize) -> usize
@@ -40,9 +40,11 @@ fn form_at(form: usize, s: &[u8], at: usize) -> Match
     requires { ⌜ (form < 14) × (at ≤ length (now s)) ⌝ }
     ensures { λ r. ⌜ MatchAt (takeForm (formAt form) (drop at (now (s .entry)))) (now (s .entry)) r ⌝ }
 {
-    let start = STARTS[form];
-    let end = STARTS[form + 1];
-    match_at(&FORMS[start..end], s, at)
+    let starts = form_starts();
+    let start = starts[form];
+    let end = starts[form + 1];
+    let bytes = form_bytes();
+    match_at(&bytes[start..end], s, at)
 }
 
 // The numbers of a line that has its form, followed by zeros; all 0 where it has not.

@@ -1,6 +1,9 @@
 // Document 01, "The sheet" and "Image and program": the forms of the sheet's thirteen lines and of the sample line. `#` stands
 // for a number, `~` for one that may have a minus, any other byte for itself.
-pub const FORMS: [u8; 251] = *b"\
+ghost use mathlib.Core.Path.{_≡_};
+ghost use Rattle.text.specs.Forms.{forms, joined, startsFrom};
+
+const FORMS: [u8; 251] = *b"\
     (trip (uv1 # #))\
     (trip (uv2 # #))\
     (trip (ov1 # #))\
@@ -18,7 +21,7 @@ pub const FORMS: [u8; 251] = *b"\
 ";
 
 // Where each form begins, and where the last one ends.
-pub const STARTS: [usize; 15] = [
+const STARTS: [usize; 15] = [
     0,
     16,
     32,
@@ -35,3 +38,16 @@ pub const STARTS: [usize; 15] = [
     231,
     251,
 ];
+
+// The forms, one after the other.
+pub fn form_bytes() -> [u8; 251]
+    ensures { λ r. ⌜ r ≡ joined forms ⌝ }
+{
+    FORMS
+}
+
+pub fn form_starts() -> [usize; 15]
+    ensures { λ r. ⌜ r ≡ startsFrom 0 forms ⌝ }
+{
+    STARTS
+}
