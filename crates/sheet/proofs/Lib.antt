@@ -1,3 +1,4 @@
 pub mod Lines
 pub mod Shapes
 pub mod Stored
+pub mod Reading

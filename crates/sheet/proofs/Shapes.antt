@@ -30,9 +30,17 @@ suits-marks (m ∷ form) ns = by (isMark m) refl ns (suits-marks form)
     by true e (k ∷ ks) f = rw (e, f ks)
     by false e ks f = f ks
 
-marks-table : map marksOf forms
-    ≡ replicate 11 (35 ∷ 35 ∷ [])
-    ++ ((35 ∷ 126 ∷ 35 ∷ 126 ∷ 35 ∷ 126 ∷ 35 ∷ 126 ∷ []) ∷ (35 ∷ 35 ∷ 35 ∷ 35 ∷ []) ∷ (35 ∷ 35 ∷ 35 ∷ 35 ∷ 35 ∷ 35 ∷ 35 ∷ []) ∷ [])
+abbrev varMarks : List ℕ
+varMarks = 35 ∷ 126 ∷ 35 ∷ 126 ∷ 35 ∷ 126 ∷ 35 ∷ 126 ∷ []
+
+abbrev wattMarks : List ℕ
+wattMarks = 35 ∷ 35 ∷ 35 ∷ 35 ∷ []
+
+-- the var line, the watt line and the sample line
+abbrev longMarks : List (List ℕ)
+longMarks = varMarks ∷ wattMarks ∷ (35 ∷ 35 ∷ 35 ∷ 35 ∷ 35 ∷ 35 ∷ 35 ∷ []) ∷ []
+
+marks-table : map marksOf forms ≡ replicate 11 (35 ∷ 35 ∷ []) ++ longMarks
 unfolding forms sheetForms sampleForm
 marks-table = refl
 
@@ -41,7 +49,7 @@ marks-at i = sym (List·getD-map marksOf forms i [])
 
 -- the first eleven lines have two numbers
 two-marks : (i : ℕ) → i < 11 → marksOf (formAt i) ≡ 35 ∷ 35 ∷ []
-two-marks i h = marks-at i ∙ ap (λ (l : List (List ℕ)). getD l i []) marks-table ∙ List·getD-append (replicate 11 (35 ∷ 35 ∷ [])) _ [] i h ∙ getD-replicate 11 i (35 ∷ 35 ∷ []) [] h
+two-marks i h = marks-at i ∙ ap (λ (l : List (List ℕ)). getD l i []) marks-table ∙ List·getD-append (replicate 11 (35 ∷ 35 ∷ [])) longMarks [] i h ∙ getD-replicate 11 i (35 ∷ 35 ∷ []) [] h
 
 -- ---- numbers, one mark at a time
 
@@ -90,3 +98,74 @@ two-numbers i h ns e =
     let a = plain-first (35 ∷ []) ns s in
     let b = plain-first [] (a .rest) (a .suit) in
     record { first = a .number; second = b .number; is = a .is ∙ ap (λ (l : List ℤ). pos (a .number) ∷ l) (b .is ∙ ap (λ (l : List ℤ). pos (b .number) ∷ l) (none-left (b .rest) (b .suit))) }
+
+pub record Four (ns : List ℤ) : Type 0 where
+  pub a : ℕ
+  pub b : ℕ
+  pub c : ℕ
+  pub d : ℕ
+  pub is : ns ≡ pos a ∷ pos b ∷ pos c ∷ pos d ∷ []
+
+pub watt-numbers : (ns : List ℤ) → suits (formAt 12) ns ≡ true → Four ns
+watt-numbers ns e =
+    let s : suits wattMarks ns ≡ true = ap (λ (m : List ℕ). suits m ns) (sym (marks-at 12 ∙ ap (λ (l : List (List ℕ)). getD l 12 []) marks-table)) ∙ sym (suits-marks (formAt 12) ns) ∙ e in
+    let p = plain-first (35 ∷ 35 ∷ 35 ∷ []) ns s in
+    let q = plain-first (35 ∷ 35 ∷ []) (p .rest) (p .suit) in
+    let r = plain-first (35 ∷ []) (q .rest) (q .suit) in
+    let t = plain-first [] (r .rest) (r .suit) in
+    record {
+      a = p .number;
+      b = q .number;
+      c = r .number;
+      d = t .number;
+      is = p .is ∙ ap (λ (l : List ℤ). pos (p .number) ∷ l) (q .is ∙ ap (λ (l : List ℤ). pos (q .number) ∷ l) (r .is ∙ ap (λ (l : List ℤ). pos (r .number) ∷ l) (t .is ∙ ap (λ (l : List ℤ). pos (t .number) ∷ l) (none-left (t .rest) (t .suit)))));
+    }
+
+-- a voltage and a power
+pub record Pointed (marks : List ℕ) (ns : List ℤ) : Type 0 where
+  pub volts : ℕ
+  pub power : ℤ
+  pub rest : List ℤ
+  pub is : ns ≡ pos volts ∷ power ∷ rest
+  pub suit : suits marks rest ≡ true
+
+pointed : (marks : List ℕ) (ns : List ℤ) → suits (35 ∷ 126 ∷ marks) ns ≡ true → Pointed marks ns
+pointed marks ns e =
+    let p = plain-first (126 ∷ marks) ns e in
+    let q = signed-first marks (p .rest) (p .suit) in
+    record { volts = p .number; power = q .number; rest = q .rest; is = p .is ∙ ap (λ (l : List ℤ). pos (p .number) ∷ l) (q .is); suit = q .suit }
+
+pub record Eight (ns : List ℤ) : Type 0 where
+  pub a : ℕ
+  pub b : ℕ
+  pub c : ℕ
+  pub d : ℕ
+  pub p : ℤ
+  pub q : ℤ
+  pub r : ℤ
+  pub s : ℤ
+  pub is : ns ≡ pos a ∷ p ∷ pos b ∷ q ∷ pos c ∷ r ∷ pos d ∷ s ∷ []
+
+pub var-numbers : (ns : List ℤ) → suits (formAt 11) ns ≡ true → Eight ns
+var-numbers ns e =
+    let t : suits varMarks ns ≡ true = ap (λ (m : List ℕ). suits m ns) (sym (marks-at 11 ∙ ap (λ (l : List (List ℕ)). getD l 11 []) marks-table)) ∙ sym (suits-marks (formAt 11) ns) ∙ e in
+    let k = pointed (35 ∷ 126 ∷ 35 ∷ 126 ∷ 35 ∷ 126 ∷ []) ns t in
+    let l = pointed (35 ∷ 126 ∷ 35 ∷ 126 ∷ []) (k .rest) (k .suit) in
+    let m = pointed (35 ∷ 126 ∷ []) (l .rest) (l .suit) in
+    let n = pointed [] (m .rest) (m .suit) in
+    record {
+      a = k .volts;
+      b = l .volts;
+      c = m .volts;
+      d = n .volts;
+      p = k .power;
+      q = l .power;
+      r = m .power;
+      s = n .power;
+      is =
+          k .is
+          ∙ ap (λ (y : List ℤ). pos (k .volts) ∷ k .power ∷ y) (l .is
+          ∙ ap (λ (y : List ℤ). pos (l .volts) ∷ l .power ∷ y) (m .is
+          ∙ ap (λ (y : List ℤ). pos (m .volts) ∷ m .power ∷ y) (n .is
+          ∙ ap (λ (y : List ℤ). pos (n .volts) ∷ n .power ∷ y) (none-left (n .rest) (n .suit)))));
+    }

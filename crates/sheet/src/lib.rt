@@ -1,11 +1,10 @@
 // Document 01, "The sheet" and "Turned-away input": reading a sheet from lent bytes.
 ghost use mathlib.Core.Path.{_≡_};
-ghost use mathlib.Core.List.{[]};
 ghost use Prim.Native.Nat.{_+_, _<_, _≤_};
-ghost use lib.IntN.{natAbs};
 ghost use lib.ListN.{length};
-ghost use Rattle.rules.specs.Sheets.{settingsOf, readSheet};
-ghost use Rattle.sheet.specs.Storing.{withNumbers, lineRead};
+ghost use Rattle.rules.specs.Sheets.{readSheet};
+ghost use Rattle.sheet.specs.Storing.{lineRead};
+ghost use Rattle.sheet.specs.Outcomes.{Gives};
 
 mod storing;
 
@@ -49,5 +48,53 @@ pub fn read_line(i: usize, line: &[u8], before: Settings) -> LineRead
     LineRead {
         check,
         settings: next,
+    }
+}
+
+// What reading a sheet gives: the check; the settings, all 0 where it is refused; and where the part handed back begins.
+pub struct SheetOutcome {
+    pub check: SettingsCheck,
+    pub settings: Settings,
+    pub start: usize,
+}
+
+// The sheet at the front of lent bytes. Bytes past the thirteenth line are not the sheet's.
+pub fn read(s: &[u8]) -> SheetOutcome
+    ensures { λ r. ⌜ Gives r (readSheet (now (s .entry))) ⌝ }
+    ensures { λ r. ⌜ r .start ≤ length (now (s .entry)) ⌝ }
+{
+    let mut settings = no_settings();
+    let mut at = 0;
+    let mut i = 0;
+    while i < 13 {
+        let end = line_end(s, at);
+        if end >= s.len() {
+            return SheetOutcome {
+                check: SettingsCheck::Refused(Refusal::Form, number_of(i)),
+                settings: no_settings(),
+                start: at,
+            };
+        }
+        let r = read_line(i, &s[at..end], settings);
+        let check = r.check;
+        i += 1;
+        match check {
+            SettingsCheck::Accepted => {
+                settings = r.settings;
+                at = end + 1;
+            }
+            SettingsCheck::Refused(_, _) => {
+                return SheetOutcome {
+                    check,
+                    settings: no_settings(),
+                    start: at,
+                };
+            }
+        }
+    }
+    SheetOutcome {
+        check: SettingsCheck::Accepted,
+        settings,
+        start: at,
     }
 }

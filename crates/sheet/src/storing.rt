@@ -15,7 +15,10 @@ use text::magnitude;
 pub fn no_settings() -> Settings
     ensures { λ r. ⌜ r ≡ settingsOf [] ⌝ }
 {
-    let limit = Limit { level: 0, clearing: 0 };
+    let limit = Limit {
+        level: 0,
+        clearing: 0,
+    };
     let point = Point { volts: 0, power: 0 };
     Settings {
         trip: [limit; 8],

@@ -1,36 +1,40 @@
+-- `sheet::read_line` meets its contract: with its form a line is stored and checked, without it refused.
+-- Assumes nothing.
+use denote.Ref.{now}
+use borrow.Author.Tests.{not-true, not-false}
+use Rattle.rules.specs.Forms.{numbersOf}
+use Rattle.text.specs.Forms.{formAt}
+use Rattle.sheet.specs.Storing.{lineRead}
+use Rattle.sheet.proofs.Lines.{line-none, line-some}
 use borrow.Author.Needs.{needs}
 use Rattle.sheet.proofs.read_line.Statement.{statement}
 use Rattle.sheet.proofs.read_line.Tie as tie
-use Rattle.sheet.proofs.read_line.Reads as reads
-use Rattle.sheet.proofs.read_line.Lts as lts
-use Rattle.settings.proofs.check_line.Reads as check-line-reads
-use Rattle.sheet.proofs.number_of.Reads as number-of-reads
-use Rattle.sheet.proofs.storing.with_numbers.Reads as with-numbers-reads
-use Rattle.text.proofs.form_numbers.Reads as form-numbers-reads
 
--- src/lib.rt:39:9
 form-numbers-requires : tie.Need-form-numbers-requires
 form-numbers-requires c κs = search needs
 
--- src/lib.rt:42:58
 number-of-requires : tie.Need-number-of-requires
 number-of-requires c κs = search needs
 
--- src/lib.rt:41:9
 returns : tie.Need-returns
-returns c = ?
+unfolding lineRead
+returns c =
+    let a = c .before .before .before .before .before .args in
+    let read = c .before .before .before .form-numbers in
+    line-none (a .i) (a .before) (numbersOf (formAt (a .i)) (now (a .line))) (read .result) (read .ensures) (not-true (read .result .found) (c .before .if1 .taken)) (c .number-of .result) (c .number-of .ensures)
 
--- src/lib.rt:47:9
 with-numbers-requires : tie.Need-with-numbers-requires
 with-numbers-requires c κs = search needs
 
--- src/lib.rt:48:9
 check-line-requires : tie.Need-check-line-requires
 check-line-requires c κs = search needs
 
--- src/lib.rt:35:1
 returns-2 : tie.Need-returns-2
-returns-2 c = ?
+unfolding lineRead
+returns-2 c =
+    let a = c .before .before .before .before .before .before .before .args in
+    let read = c .before .before .before .before .before .form-numbers in
+    line-some (a .i) (a .before) (numbersOf (formAt (a .i)) (now (a .line))) (read .result) (read .ensures) (not-false (read .result .found) (c .before .before .before .if1 .left)) (c .before .with-numbers .result) (c .check-line .result) (c .before .with-numbers .ensures) (c .check-line .ensures)
 
 pub read-line-spec : {M : Type 1} → statement M
 read-line-spec =
