@@ -1,2 +1,3 @@
 pub mod Storing
 pub mod Outcomes
+pub mod Parts

@@ -5,6 +5,7 @@ ghost use lib.ListN.{length};
 ghost use Rattle.rules.specs.Sheets.{readSheet};
 ghost use Rattle.sheet.specs.Storing.{lineRead};
 ghost use Rattle.sheet.specs.Outcomes.{Gives};
+ghost use Rattle.sheet.specs.Parts.{IsPart};
 
 mod storing;
 
@@ -96,5 +97,25 @@ pub fn read(s: &[u8]) -> SheetOutcome
         check: SettingsCheck::Accepted,
         settings,
         start: at,
+    }
+}
+
+// The part of the caller's own bytes that reading a sheet hands back: the refused line without its line feed, a missing one
+// the empty part at the end; or what follows an accepted sheet.
+pub fn part(s: &[u8]) -> &[u8]
+    ensures { λ r. ⌜ IsPart (s .entry) r ⌝ }
+{
+    let outcome = read(s);
+    let start = outcome.start;
+    let check = outcome.check;
+    match check {
+        SettingsCheck::Accepted => {
+            let end = s.len();
+            &s[start..end]
+        }
+        SettingsCheck::Refused(_, _) => {
+            let end = line_end(s, start);
+            &s[start..end]
+        }
     }
 }
