@@ -8,6 +8,7 @@ use Prim.Native.Nat.{ℕ, _≤_}
 use lib.ListN.{length, take}
 use Rattle.rules.specs.Settings.{settingsAccepted}
 use Rattle.rules.specs.Samples.{Slice, Equipment, sampleAccepted}
+use Rattle.rules.specs.Reports.{Items}
 use Rattle.rules.specs.History.{History, followedBy, historyReport}
 use Rattle.rules.specs.Images.{imageLength, savedInto}
 use Rattle.rules.specs.declared.Settings.{Settings}
@@ -19,23 +20,25 @@ AllAccepted [] = Unit {0}
 AllAccepted (x ∷ xs) = (sampleAccepted x ≡ true) × AllAccepted xs
 
 -- "A common run is 0 to 100,000 accepted samples, the same put after both lists; the reports compared are those at its end."
+abbrev pub AgreeBy : (History → Items) → History → History → Type 0
+AgreeBy report h g =
+    (run : List Slice) → length run ≤ 100000 → AllAccepted run → report (followedBy h run) ≡ report (followedBy g run)
+
+-- the reports that the accepted samples alone give
 abbrev pub Agree : Equipment → Settings → History → History → Type 0
-Agree e st h g =
-    (run : List Slice) → length run ≤ 100000 → AllAccepted run
-    → historyReport e st (followedBy h run) ≡ historyReport e st (followedBy g run)
+Agree e st h g = AgreeBy (historyReport e st) h g
 
--- the image saved of a record: the first 45 bytes of a buffer after the saving
-abbrev pub savedImage : Board → List ℕ → List ℕ
-savedImage b buffer = take imageLength (savedInto b buffer)
-
--- the images saved after two lists of calls, each into a buffer that 9 lets pass, are equal byte for byte exactly when
--- the reports that the accepted samples alone give are equal, now and after every common run
-abbrev pub TwoHistories : Equipment → Program → Settings → Type 0
-TwoHistories e p st =
+-- the images saved after two lists of calls, each into a buffer that 9 lets pass, are equal byte for byte exactly when the reports are
+-- equal, now and after every common run. The saving and the report are parameters, so that others can be held against it.
+abbrev pub TwoHistoriesBy : (Board → List ℕ → List ℕ) → (Settings → History → Items) → Program → Settings → Type 0
+TwoHistoriesBy saved report p st =
     (ps qs : List Call) → Under st ps → Under st qs
     → (a b : List ℕ) → imageLength ≤ length a → imageLength ≤ length b
-    → (savedImage (runOf p ps .board) a ≡ savedImage (runOf p qs .board) b) ↔ Agree e st (heard ps) (heard qs)
+    → (take imageLength (saved (runOf p ps .board) a) ≡ take imageLength (saved (runOf p qs .board) b)) ↔ AgreeBy (report st) (heard ps) (heard qs)
 
--- demand 3, of a board program: under every accepted sheet
+abbrev pub Demand3By : (Board → List ℕ → List ℕ) → (Settings → History → Items) → Program → Type 0
+Demand3By saved report p = (st : Settings) → settingsAccepted st ≡ true → TwoHistoriesBy saved report p st
+
+-- demand 3, of a board program: by the saving of document 01 and the reports that histories give, under every accepted sheet
 abbrev pub Demand3 : Equipment → Program → Type 0
-Demand3 e p = (st : Settings) → settingsAccepted st ≡ true → TwoHistories e p st
+Demand3 e p = Demand3By savedInto (historyReport e) p

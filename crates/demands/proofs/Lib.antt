@@ -1,1 +1,5 @@
 pub mod Edges
+pub mod Sound
+pub mod ShamReport
+pub mod Shams
+pub mod Demands

@@ -1,1 +1,3 @@
 pub mod Edges
+pub mod Shams
+pub mod Demands

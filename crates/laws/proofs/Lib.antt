@@ -9,3 +9,5 @@ pub mod Told
 pub mod Probes
 pub mod Ramps
 pub mod Images
+pub mod Curves
+pub mod Demand3

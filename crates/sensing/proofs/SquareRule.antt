@@ -10,7 +10,7 @@ use Rattle.rules.specs.Sensing.{voltage}
 use Rattle.roots.specs.Root.{IsRoot}
 use Rattle.roots.proofs.Roots.{root-one}
 use Rattle.roots.proofs.Voltages.{voltage-root}
-use Rattle.sensing.proofs.Entries.{both-left, both-right, every, at}
+use Rattle.sensing.proofs.Places.{both-left, both-right, every, at}
 
 -- the square rule as a test of code k and entry v
 abbrev pub square-rule : ℕ → ℕ → Bool

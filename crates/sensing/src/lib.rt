@@ -2,19 +2,27 @@
 ghost use mathlib.Core.Path.{_≡_};
 ghost use Prim.Native.Nat.{_<_};
 ghost use Rattle.rules.specs.Sensing.{voltage, sensed};
+ghost use Rattle.sensing.specs.Tables.{IsTable};
 
-mod table;
+mod entries;
 
+use entries::VOLTS;
 use rules::Refusal;
 use rules::Sensed;
-use table::VOLTS;
 
-// The voltage of a code of the table. No other function names the table.
-pub fn volts(code: u32) -> u16
-    requires { ⌜ code < 4096 ⌝ }
+// The table of 4,096 entries. A caller makes it once and lends it. No other function names the constant.
+pub fn table() -> [u16; 4096]
+    ensures { λ t. ⌜ IsTable t ⌝ }
+{
+    VOLTS
+}
+
+// The voltage of a code of the table.
+pub fn volts(table: &[u16; 4096], code: u32) -> u16
+    requires { ⌜ (IsTable (now table)) × (code < 4096) ⌝ }
     ensures { λ r. ⌜ r ≡ voltage code ⌝ }
 {
-    VOLTS[code as usize]
+    table[code as usize]
 }
 
 // The voltage of any code: one above the table is refused, and never given the last entry.
@@ -22,7 +30,8 @@ pub fn sense(code: u32) -> Sensed
     ensures { λ r. ⌜ r ≡ sensed code ⌝ }
 {
     if code < 4096 {
-        Sensed::Volts(volts(code))
+        let t = table();
+        Sensed::Volts(volts(&t, code))
     } else {
         Sensed::Refused(Refusal::Code)
     }

@@ -1,4 +1,4 @@
 pub mod Words
-pub mod Halves
+pub mod Rows
 pub mod Sheet
 pub mod Steps

@@ -1,46 +1,39 @@
 // Whether settings keep to the ranges and the strict rise of document 01, "The sheet".
 ghost use mathlib.Core.Path.{_≡_};
 ghost use mathlib.Core.List.{map};
-ghost use Prim.Native.Nat.{_<_, _+_};
-ghost use lib.Signed.{ltZ};
+ghost use Prim.Native.Nat.{_<_};
 ghost use Rattle.rules.specs.Tests.{all};
 ghost use Rattle.rules.specs.Settings.{inRow, rising, settingsCheck};
-ghost use Rattle.settings.specs.Rows.{rowAt};
+ghost use Rattle.settings.specs.Rows.{rowOf};
 ghost use Rattle.settings.specs.Lines.{lineAt};
 
 mod lines;
 mod ranges;
 
-use lines::Pair;
 use lines::pair_at;
 use lines::pairs_in;
+use ranges::Row;
 use ranges::in_row;
+use ranges::table;
 use rules::Refusal;
 use rules::Settings;
 use rules::SettingsCheck;
 
-// Whether every pair of a line lies in its row.
-fn in_range(s: Settings, line: usize) -> bool
+// Whether every pair of a line lies in a row.
+fn in_range(row: Row, s: Settings, line: usize) -> bool
     requires { ⌜ line < 13 ⌝ }
-    ensures { λ r. ⌜ r ≡ all (map (inRow (rowAt line)) (lineAt s line)) ⌝ }
+    ensures { λ r. ⌜ r ≡ all (map (inRow (rowOf row)) (lineAt s line)) ⌝ }
 {
     let count = pairs_in(line);
     let mut k = 0;
     while k < count {
         let p = pair_at(s, line, k);
-        if !in_row(line, p) {
+        if !in_row(row, p) {
             return false;
         }
         k += 1;
     }
     true
-}
-
-// Whether the first number rises strictly from one pair to the next.
-fn below(left: Pair, right: Pair) -> bool
-    ensures { λ r. ⌜ r ≡ ltZ (left .first) (right .first) ⌝ }
-{
-    left.first < right.first
 }
 
 // Whether the first numbers along a line rise strictly.
@@ -53,7 +46,7 @@ fn rises(s: Settings, line: usize) -> bool
     while k < last {
         let left = pair_at(s, line, k);
         let right = pair_at(s, line, k + 1);
-        if !below(left, right) {
+        if !(left.first < right.first) {
             return false;
         }
         k += 1;
@@ -61,27 +54,22 @@ fn rises(s: Settings, line: usize) -> bool
     true
 }
 
-// The number of a line in the sheet, counted from 1.
-fn line_number(line: usize) -> u8
-    requires { ⌜ line < 13 ⌝ }
-    ensures { λ r. ⌜ r ≡ line + 1 ⌝ }
-{
-    (line + 1) as u8
-}
-
 // Document 01, "Turned-away input", 2 and 3: the first found in sheet order, within a line 2 before 3.
 pub fn check(s: Settings) -> SettingsCheck
     ensures { λ r. ⌜ r ≡ settingsCheck s ⌝ }
 {
+    let rows = table();
     let mut line = 0;
     while line < 13 {
-        let range = in_range(s, line);
+        let row = rows[line];
+        let range = in_range(row, s, line);
         let rise = rises(s, line);
+        let number = (line + 1) as u8;
         if !range {
-            return SettingsCheck::Refused(Refusal::Range, line_number(line));
+            return SettingsCheck::Refused(Refusal::Range, number);
         }
         if !rise {
-            return SettingsCheck::Refused(Refusal::Rise, line_number(line));
+            return SettingsCheck::Refused(Refusal::Rise, number);
         }
         line += 1;
     }

@@ -43,7 +43,7 @@ fn point_pair(p: Point) -> Pair
     }
 }
 
-// How many pairs a line has, counted from 0: four in a var line, two in a watt line, and otherwise one.
+// How many pairs a line has, lines counted from 0: the var line four, the watt line two, any other one.
 pub fn pairs_in(line: usize) -> usize
     ensures { λ r. ⌜ r ≡ pairsIn line ⌝ }
 {

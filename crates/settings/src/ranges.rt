@@ -1,52 +1,50 @@
 // Document 01, "The sheet": the table of allowed values, and the one range check that reads it.
 ghost use mathlib.Core.Path.{_≡_};
 ghost use mathlib.Core.Bool.{_&&_};
-ghost use Prim.Native.Nat.{_<_};
+ghost use mathlib.Core.List.{map};
 ghost use lib.Signed.{leZ};
-ghost use Rattle.rules.specs.Settings.{inRow};
-ghost use Rattle.settings.specs.Rows.{rowOf, rowAt};
+ghost use Rattle.rules.specs.Settings.{rows, inRow};
+ghost use Rattle.settings.specs.Rows.{rowOf};
 ghost use Rattle.settings.specs.Lines.{pairOf};
 use crate::lines::Pair;
 
 // Lowest and highest of a line's first number, then of its second, ends included.
 pub struct Row(pub i64, pub i64, pub i64, pub i64);
 
-// In sheet order: uv1, uv2, ov1, ov2, uf1, uf2, of1, of2, volts, hertz, wait, var, watt.
+// A row a line, in sheet order.
 const ROWS: [Row; 13] = [
-    Row(0, 8800, 2100, 5000),
-    Row(0, 5000, 200, 2100),
-    Row(11000, 12000, 100, 1300),
-    Row(12000, 12000, 16, 16),
-    Row(50000, 59000, 18000, 100000),
-    Row(50000, 57000, 16, 100000),
-    Row(61000, 66000, 18000, 100000),
-    Row(61800, 66000, 16, 100000),
-    Row(8800, 9500, 10500, 10600),
-    Row(59000, 59900, 60100, 61000),
-    Row(0, 60000, 100, 100000),
-    Row(7000, 13000, -10000, 10000),
-    Row(10000, 12000, 0, 10000),
+    Row(0, 8800, 2100, 5000), // uv1
+    Row(0, 5000, 200, 2100), // uv2
+    Row(11000, 12000, 100, 1300), // ov1
+    Row(12000, 12000, 16, 16), // ov2
+    Row(50000, 59000, 18000, 100000), // uf1
+    Row(50000, 57000, 16, 100000), // uf2
+    Row(61000, 66000, 18000, 100000), // of1
+    Row(61800, 66000, 16, 100000), // of2
+    Row(8800, 9500, 10500, 10600), // volts
+    Row(59000, 59900, 60100, 61000), // hertz
+    Row(0, 60000, 100, 100000), // wait
+    Row(7000, 13000, -10000, 10000), // var
+    Row(10000, 12000, 0, 10000), // watt
 ];
 
-// The row of a line, counted from 0.
-fn row_at(line: usize) -> Row
-    requires { ⌜ line < 13 ⌝ }
-    ensures { λ r. ⌜ rowOf r ≡ rowAt line ⌝ }
+// The whole table.
+pub fn table() -> [Row; 13]
+    ensures { λ r. ⌜ map rowOf r ≡ rows ⌝ }
 {
-    ROWS[line]
+    ROWS
 }
 
+// Whether a number lies in a range, ends included.
 fn within(low: i64, high: i64, n: i64) -> bool
     ensures { λ r. ⌜ r ≡ (leZ low n && leZ n high) ⌝ }
 {
     low <= n && n <= high
 }
 
-// Whether a pair lies in the row of a line, counted from 0.
-pub fn in_row(line: usize, p: Pair) -> bool
-    requires { ⌜ line < 13 ⌝ }
-    ensures { λ r. ⌜ r ≡ inRow (rowAt line) (pairOf p) ⌝ }
+// Whether a pair lies in a row.
+pub fn in_row(row: Row, p: Pair) -> bool
+    ensures { λ r. ⌜ r ≡ inRow (rowOf row) (pairOf p) ⌝ }
 {
-    let row = row_at(line);
     within(row.0, row.1, p.first) && within(row.2, row.3, p.second)
 }

@@ -7,16 +7,19 @@ use Rattle.rules.specs.Sensing.{sensed, lastCode}
 use Rattle.sensing.proofs.sense.Statement.{statement}
 use Rattle.sensing.proofs.sense.Tie as tie
 
+table-requires : tie.Need-table-requires
+table-requires c κs = search needs
+
 volts-requires : tie.Need-volts-requires
 volts-requires c κs = search needs
 
 returns : tie.Need-returns
 unfolding sensed
-returns c = simp (le-leb (c .before .before .args .code) lastCode (omega arith), c .volts .ensures)
+returns c = simp (le-leb (c .before .before .before .before .args .code) lastCode (omega arith), c .volts .ensures)
 
 returns-2 : tie.Need-returns-2
 unfolding sensed
 returns-2 c = simp (lt-leb (c .before .args .code) lastCode (omega arith))
 
 pub sense-spec : {M : Type 1} → statement M
-sense-spec = tie.close (tie.spec volts-requires returns returns-2)
+sense-spec = tie.close (tie.spec table-requires volts-requires returns returns-2)

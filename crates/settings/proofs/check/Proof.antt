@@ -6,19 +6,29 @@ use native.Mathlib.Omega.{arith}
 use borrow.Author.Needs.{needs}
 use borrow.Author.Tests.{not-true, not-false}
 use Rattle.rules.specs.Settings.{settingsCheck}
+use Rattle.settings.proofs.Rows.{row-here}
 use Rattle.settings.proofs.Steps.{from, line-more, line-end}
 use Rattle.settings.proofs.check.Statement.{statement}
 use Rattle.settings.proofs.check.Tie as tie
 
 abbrev Inv-loop : tie.InvT-loop
-Inv-loop s line₀ line = (line ≤ 13) × (settingsCheck s ≡ from s line)
+Inv-loop s rows line₀ line = (line ≤ 13) × (settingsCheck s ≡ from s line)
 
 abbrev μ-loop : tie.MeasureT-loop
-μ-loop s line₀ line = 13 - line
+μ-loop s rows line₀ line = 13 - line
+
+table-requires : tie.Need-table-requires Inv-loop μ-loop
+table-requires c κs = search needs
 
 loop-holds : tie.Need-loop-holds Inv-loop μ-loop
 unfolding settingsCheck
 loop-holds c = (omega arith, refl)
+
+mul-row : tie.Need-mul-row Inv-loop μ-loop
+mul-row c = search needs
+
+array-copy-out-row : tie.Need-array-copy-out-row Inv-loop μ-loop
+array-copy-out-row c = search needs
 
 in-range-requires : tie.Need-in-range-requires Inv-loop μ-loop
 in-range-requires c κs = search needs
@@ -26,25 +36,27 @@ in-range-requires c κs = search needs
 rises-requires : tie.Need-rises-requires Inv-loop μ-loop
 rises-requires c κs = search needs
 
-line-number-requires : tie.Need-line-number-requires Inv-loop μ-loop
-line-number-requires c κs = search needs
+add-number : tie.Need-add-number Inv-loop μ-loop
+add-number c = search needs
+
+cast-number : tie.Need-cast-number Inv-loop μ-loop
+cast-number c = search needs
 
 returns : tie.Need-returns Inv-loop μ-loop
 returns c =
-    let found = c .before .before in
-    let at = found .before .before .before in
-    let more = line-more (at .before .args .s) (at .loop .line) (omega arith) in
-    rw (at .loop .inv .1, more, ← found .before .in-range .ensures, not-true (found .before .in-range .result) (c .before .if1 .taken), c .line-number .ensures)
-
-line-number-requires-2 : tie.Need-line-number-requires-2 Inv-loop μ-loop
-line-number-requires-2 c κs = search needs
+    let found = c .before in
+    let at = found .before .before .before .before in
+    let more = line-more (at .before .before .args .s) (at .loop .line) (omega arith) in
+    let row = row-here (at .before .table .result) (at .before .table .ensures) (at .loop .line) in
+    rw (at .loop .inv .1, more, ← row, ← found .before .in-range .ensures, not-true (found .before .in-range .result) (c .if1 .taken))
 
 returns-2 : tie.Need-returns-2 Inv-loop μ-loop
 returns-2 c =
-    let found = c .before .before .before in
-    let at = found .before .before .before in
-    let more = line-more (at .before .args .s) (at .loop .line) (omega arith) in
-    rw (at .loop .inv .1, more, ← found .before .in-range .ensures, not-false (found .before .in-range .result) (c .before .before .if1 .left), ← found .rises .ensures, not-true (found .rises .result) (c .before .if2 .taken), c .line-number2 .ensures)
+    let found = c .before .before in
+    let at = found .before .before .before .before in
+    let more = line-more (at .before .before .args .s) (at .loop .line) (omega arith) in
+    let row = row-here (at .before .table .result) (at .before .table .ensures) (at .loop .line) in
+    rw (at .loop .inv .1, more, ← row, ← found .before .in-range .ensures, not-false (found .before .in-range .result) (c .before .if1 .left), ← found .rises .ensures, not-true (found .rises .result) (c .if2 .taken))
 
 add-line : tie.Need-add-line Inv-loop μ-loop
 add-line c = search needs
@@ -55,12 +67,13 @@ loop-less c = search needs
 loop-again : tie.Need-loop-again Inv-loop μ-loop
 loop-again c =
     let found = c .before .before in
-    let at = found .before .before .before in
-    let more = line-more (at .before .args .s) (at .loop .line) (omega arith) in
-    (omega arith, at .loop .inv .1 ∙ rw (more, ← found .before .in-range .ensures, not-false (found .before .in-range .result) (c .before .if1 .left), ← found .rises .ensures, not-false (found .rises .result) (c .if2 .left)))
+    let at = found .before .before .before .before in
+    let more = line-more (at .before .before .args .s) (at .loop .line) (omega arith) in
+    let row = row-here (at .before .table .result) (at .before .table .ensures) (at .loop .line) in
+    (omega arith, at .loop .inv .1 ∙ rw (more, ← row, ← found .before .in-range .ensures, not-false (found .before .in-range .result) (c .before .if1 .left), ← found .rises .ensures, not-false (found .rises .result) (c .if2 .left)))
 
 returns-3 : tie.Need-returns-3 Inv-loop μ-loop
-returns-3 c = rw (c .before .loop .inv .1, line-end (c .before .before .args .s) (c .before .loop .line) (omega arith))
+returns-3 c = rw (c .before .loop .inv .1, line-end (c .before .before .before .args .s) (c .before .loop .line) (omega arith))
 
 pub check-spec : {M : Type 1} → statement M
 check-spec =
@@ -68,12 +81,15 @@ check-spec =
     (tie.spec
     Inv-loop
     μ-loop
+    table-requires
     loop-holds
+    mul-row
+    array-copy-out-row
     in-range-requires
     rises-requires
-    line-number-requires
+    add-number
+    cast-number
     returns
-    line-number-requires-2
     returns-2
     add-line
     loop-less

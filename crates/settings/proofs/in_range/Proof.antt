@@ -9,7 +9,7 @@ use borrow.Author.Needs.{needs}
 use borrow.Author.Tests.{not-true, not-false}
 use Rattle.rules.specs.Tests.{all}
 use Rattle.rules.specs.Settings.{inRow}
-use Rattle.settings.specs.Rows.{rowAt}
+use Rattle.settings.specs.Rows.{rowOf}
 use Rattle.settings.specs.Lines.{lineAt, pairsIn}
 use Rattle.settings.proofs.Sheet.{pairs-at, unmapped}
 use Rattle.settings.proofs.Steps.{range-more, range-end}
@@ -17,11 +17,11 @@ use Rattle.settings.proofs.in_range.Statement.{statement}
 use Rattle.settings.proofs.in_range.Tie as tie
 
 abbrev Inv-loop : tie.InvT-loop
-Inv-loop s line count k₀ k =
-    (k ≤ count) × (all (map (inRow (rowAt line)) (lineAt s line)) ≡ all (map (inRow (rowAt line)) (drop k (lineAt s line))))
+Inv-loop row s line count k₀ k =
+    (k ≤ count) × (all (map (inRow (rowOf row)) (lineAt s line)) ≡ all (map (inRow (rowOf row)) (drop k (lineAt s line))))
 
 abbrev μ-loop : tie.MeasureT-loop
-μ-loop s line count k₀ k = count - k
+μ-loop row s line count k₀ k = count - k
 
 long : (c : tie.Start Inv-loop μ-loop) → length (lineAt (c .args .s) (c .args .line)) ≡ pairsIn (c .args .line)
 long c = pairs-at (c .args .s) (search (needs, unmapped)) (search (needs, unmapped)) (c .args .line) (c .pre)
@@ -44,7 +44,7 @@ returns : tie.Need-returns Inv-loop μ-loop
 returns c =
     let at = c .before .before .before .before in
     let z = at .before .before in
-    let f = inRow (rowAt (z .args .line)) in
+    let f = inRow (rowOf (z .args .row)) in
     let l = lineAt (z .args .s) (z .args .line) in
     let more = range-more l (at .loop .k) f (omega (arith, long z, at .before .pairs-in .ensures)) in
     rw (at .loop .inv .1, more, ← c .before .before .pair-at .ensures, ← c .before .in-row .ensures, not-true (c .before .in-row .result) (c .if1 .taken))
@@ -59,7 +59,7 @@ loop-again : tie.Need-loop-again Inv-loop μ-loop
 loop-again c =
     let at = c .before .before .before .before in
     let z = at .before .before in
-    let f = inRow (rowAt (z .args .line)) in
+    let f = inRow (rowOf (z .args .row)) in
     let l = lineAt (z .args .s) (z .args .line) in
     let more = range-more l (at .loop .k) f (omega (arith, long z, at .before .pairs-in .ensures)) in
     (omega arith, at .loop .inv .1 ∙ rw (more, ← c .before .before .pair-at .ensures, ← c .before .in-row .ensures, not-false (c .before .in-row .result) (c .if1 .left)))
@@ -68,7 +68,7 @@ returns-2 : tie.Need-returns-2 Inv-loop μ-loop
 returns-2 c =
     let z = c .before .before .before in
     let l = lineAt (z .args .s) (z .args .line) in
-    rw (c .before .loop .inv .1, range-end l (c .before .loop .k) (inRow (rowAt (z .args .line))) (omega (arith, long z, c .before .before .pairs-in .ensures)))
+    rw (c .before .loop .inv .1, range-end l (c .before .loop .k) (inRow (rowOf (z .args .row))) (omega (arith, long z, c .before .before .pairs-in .ensures)))
 
 pub in-range-spec : {M : Type 1} → statement M
 in-range-spec =

@@ -4,10 +4,13 @@ use mathlib.Core.Path.{_≡_, refl, _∙_}
 use Prim.Native.Nat.{_-_, _≤_}
 use native.Mathlib.Omega.{arith}
 use lib.ListN.{length, drop}
+use lib.Signed.{ltZ}
+use mir.Syntax.{w64}
 use borrow.Author.Needs.{needs}
 use borrow.Author.Tests.{not-true, not-false}
 use Rattle.rules.specs.Settings.{rising}
 use Rattle.settings.specs.Lines.{lineAt, pairsIn}
+use Rattle.settings.proofs.Words.{word}
 use Rattle.settings.proofs.Sheet.{some-pair, pairs-at, unmapped}
 use Rattle.settings.proofs.Steps.{rise-more, rise-end}
 use Rattle.settings.proofs.rises.Statement.{statement}
@@ -44,18 +47,17 @@ pair-at-requires-2 c κs =
     let count = c .before .before .before .pairs-in .ensures in
     (c .before .before .before .before .pre, omega arith)
 
-below-requires : tie.Need-below-requires Inv-loop μ-loop
-below-requires c κs = search needs
-
 returns : tie.Need-returns Inv-loop μ-loop
 returns c =
-    let at = c .before .before .before .before .before in
+    let turn = c .before .before .before .before .before .before .before in
+    let at = turn .before in
     let z = at .before .before in
     let l = lineAt (z .args .s) (z .args .line) in
-    let left = c .before .before .before .pair-at .ensures in
-    let right = c .before .before .pair-at2 .ensures in
-    let more = rise-more l (at .loop .k) (omega (arith, long z, at .before .pairs-in .ensures)) in
-    rw (at .loop .inv .1, more, ← left, ← right, ← c .before .below .ensures, not-true (c .before .below .result) (c .if1 .taken))
+    let left = c .before .before .before .before .before .before .pair-at in
+    let right = c .before .before .before .before .before .pair-at2 in
+    let more = rise-more l (at .loop .k) (omega (arith, long z, at .before .pairs-in .ensures, turn .loop-test .taken)) in
+    let test = rw (word w64 {z = left .result .first} (omega arith), word w64 {z = right .result .first} (omega arith)) at (c .if1 .taken) in
+    rw (at .loop .inv .1, more, ← left .ensures, ← right .ensures, not-true (ltZ (left .result .first) (right .result .first)) test)
 
 add-k : tie.Need-add-k Inv-loop μ-loop
 add-k c = search needs
@@ -65,13 +67,15 @@ loop-less c = search needs
 
 loop-again : tie.Need-loop-again Inv-loop μ-loop
 loop-again c =
-    let at = c .before .before .before .before .before in
+    let turn = c .before .before .before .before .before .before .before in
+    let at = turn .before in
     let z = at .before .before in
     let l = lineAt (z .args .s) (z .args .line) in
-    let left = c .before .before .before .pair-at .ensures in
-    let right = c .before .before .pair-at2 .ensures in
-    let more = rise-more l (at .loop .k) (omega (arith, long z, at .before .pairs-in .ensures)) in
-    (omega arith, at .loop .inv .1 ∙ rw (more, ← left, ← right, ← c .before .below .ensures, not-false (c .before .below .result) (c .if1 .left)))
+    let left = c .before .before .before .before .before .before .pair-at in
+    let right = c .before .before .before .before .before .pair-at2 in
+    let more = rise-more l (at .loop .k) (omega (arith, long z, at .before .pairs-in .ensures, turn .loop-test .taken)) in
+    let test = rw (word w64 {z = left .result .first} (omega arith), word w64 {z = right .result .first} (omega arith)) at (c .if1 .left) in
+    (omega arith, at .loop .inv .1 ∙ rw (more, ← left .ensures, ← right .ensures, not-false (ltZ (left .result .first) (right .result .first)) test))
 
 returns-2 : tie.Need-returns-2 Inv-loop μ-loop
 returns-2 c =
@@ -91,7 +95,6 @@ rises-spec =
     pair-at-requires
     add-pair-at
     pair-at-requires-2
-    below-requires
     returns
     add-k
     loop-less

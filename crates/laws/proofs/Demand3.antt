@@ -1,0 +1,151 @@
+-- Demand 3 holds of the board by document 01's rules, for any sound equipment.
+-- Assumes nothing.
+use mathlib.Core.Path.{_≡_, refl, sym, ap, _∙_, subst}
+use mathlib.Core.Bool.{Bool, true, false, cond, _&&_}
+use mathlib.Core.List.{List, [], _∷_, _++_, map}
+use mathlib.Core.Logic.{_↔_}
+use Prim.Native.Nat.{ℕ, zero, suc, _≤_, _<_, min, zero-le}
+use native.Mathlib.Omega.{arith}
+use lib.IntN.{ℤ, pos, negsuc, natAbs}
+use lib.ListN.{length, take, drop}
+use lib.Seq.{take-at}
+use mir.Syntax.{w16}
+use mir.Val.{SFits}
+use borrow.Author.Tests.{le-leb}
+use Rattle.rules.specs.Settings.{settingsAccepted}
+use Rattle.rules.specs.Samples.{Slice, Equipment, mean, sampleAccepted}
+use Rattle.rules.specs.Counters.{Rule, rules}
+use Rattle.rules.specs.Curves.{curve}
+use Rattle.rules.specs.Service.{inService, exports, varsOf, least, wattsOf}
+use Rattle.rules.specs.Reports.{Items}
+use Rattle.rules.specs.Records.{next, shown}
+use Rattle.rules.specs.History.{History, followedBy, serving, climbed, historyStatus, historyShare, historyWatts, historyVars, historyReport}
+use Rattle.rules.specs.Images.{image, imageLength, savedInto}
+use Rattle.rules.specs.declared.Settings.{Settings}
+use Rattle.rules.specs.declared.Board.{Board}
+use Rattle.claims.specs.Calls.{Call, Run, ruledBy, runOf, callAccepted, heardOne, heardAfter, heard, Under}
+use Rattle.claims.specs.Sound.{Sound}
+use Rattle.claims.specs.TripAndReturn.{countOf, recordOf}
+use Rattle.claims.specs.TwoHistories.{AllAccepted, Agree, TwoHistoriesBy, Demand3}
+use Rattle.power.proofs.CurveLaws.{curve-small}
+use Rattle.power.proofs.PointLists.{powers-small}
+use Rattle.laws.proofs.Bools.{both}
+use Rattle.laws.proofs.Accepted.{sample-right, sheet-rows}
+use Rattle.laws.proofs.Curves.{var-rises}
+use Rattle.laws.proofs.Trace.{counters-are, service-is, ramp-is, status-is, watts-is, vars-is, next-is, shown-is}
+use Rattle.laws.proofs.Demand2.{run-is}
+use Rattle.laws.proofs.Probes.{AllTellable, all-rules, rules-told}
+use Rattle.laws.proofs.Ramps.{ramps-told}
+use Rattle.laws.proofs.Images.{AllBelow, FieldsFit, image-length, image-inj}
+
+-- ---- every sample of a history that calls give was accepted
+
+heard-accepted : (cs : List Call) (h : History) → AllAccepted h → AllAccepted (heardAfter h cs)
+heard-accepted [] h a = a
+heard-accepted (c ∷ cs) h a = heard-accepted cs (heardOne h c) (by (callAccepted c) refl)
+  where
+    by : (b : Bool) → callAccepted c ≡ b → AllAccepted (cond b (c .slice ∷ h) h)
+    by true e = (both (settingsAccepted (c .settings)) (sampleAccepted (c .slice)) e .1, a)
+    by false e = a
+
+-- ---- the fields of a history's record fit their widths
+
+counts-below : (h : History) (rs : List Rule) → AllTellable rs → AllBelow 4294967296 (map (countOf h) rs)
+counts-below h [] t = tt
+counts-below h (r ∷ rs) t = (omega (arith, t .0 .reach), counts-below h rs (t .1))
+
+power-fits : (z : ℤ) → natAbs z ≤ 10000 → SFits w16 z
+power-fits (pos n) h = record { sfits = omega arith }
+power-fits (negsuc n) h = record { sfits = omega arith }
+
+-- a record is its fields
+same-record : {b c : Board} → b .status ≡ c .status → b .counters ≡ c .counters → b .ramp ≡ c .ramp → b .watts ≡ c .watts → b .vars ≡ c .vars → b ≡ c
+same-record e₁ e₂ e₃ e₄ e₅ = made e₁ e₂ e₃ e₄ e₅
+  where
+    made : {s s′ : ℕ} {l l′ : List ℕ} {r r′ w w′ : ℕ} {v v′ : ℤ} → s ≡ s′ → l ≡ l′ → r ≡ r′ → w ≡ w′ → v ≡ v′
+        → _≡_ {A = Board} (record { status = s; counters = l; ramp = r; watts = w; vars = v }) (record { status = s′; counters = l′; ramp = r′; watts = w′; vars = v′ })
+    made p q r w v = rw (p, q, r, w, v)
+
+module _ (e : Equipment) (sound : Sound e) (st : Settings) (ok : settingsAccepted st ≡ true) where
+  watts-below : (h : History) → AllAccepted h → historyWatts e st h ≤ 10000
+  unfolding historyWatts wattsOf
+  watts-below [] a = omega arith
+  watts-below (x ∷ h) a = by (exports (historyStatus e st (x ∷ h)))
+    where
+      by : (b : Bool) → cond b (least e st x (historyShare e st (x ∷ h)) (varsOf e st x (historyStatus e st (x ∷ h)))) 0 ≤ 10000
+      by true = omega (arith, sample-right x (a .0) .available-top)
+      by false = omega arith
+
+  vars-fit : (h : History) → SFits w16 (historyVars e st h)
+  unfolding historyVars varsOf
+  vars-fit [] = power-fits (pos 0) (omega arith)
+  vars-fit (x ∷ h) = by (exports (historyStatus e st (x ∷ h)))
+    where
+      by : (b : Bool) → SFits w16 (cond b (curve (st .var) (mean e x)) (pos 0))
+      by true = power-fits (curve (st .var) (mean e x)) (curve-small 10000 (st .var) (mean e x) (powers-small (st .var) (var-rises st ok)))
+      by false = power-fits (pos 0) (omega arith)
+
+  record-fits : (h : History) → AllAccepted h → FieldsFit (recordOf e st h)
+  record-fits h a =
+      record {
+        nine = ap length (counters-are e st h);
+        counts = subst (AllBelow 4294967296) (sym (counters-are e st h)) (counts-below h (rules e st) (rules-told e sound st ok));
+        ramps = subst (λ (n : ℕ). n < 4294967296) (sym (ramp-is e st h)) (omega (arith, sheet-rows st ok .wait));
+        powers = subst (λ (n : ℕ). n < 65536) (sym (watts-is e st h)) (omega (arith, watts-below h a));
+        signed = subst (SFits w16) (sym (vars-is e st h)) (vars-fit h);
+      }
+
+  -- ---- equal reports, now and after every common run: equal records
+
+  records-told : (h g : History) → AllAccepted h → AllAccepted g → Agree e st h g → recordOf e st h ≡ recordOf e st g
+  unfolding historyReport
+  records-told h g ha ga f =
+      let now : historyReport e st h ≡ historyReport e st g = f [] zero-le tt in
+      let s : recordOf e st h .status ≡ recordOf e st g .status = status-is e st h ∙ ap (λ (r : Items). r .status) now ∙ sym (status-is e st g) in
+      let o : serving e st h ≡ serving e st g = sym (service-is e st h) ∙ ap inService s ∙ service-is e st g in
+      same-record s
+      (counters-are e st h
+      ∙ all-rules h g ha ga (rules e st) (rules-told e sound st ok) (λ run l a. ap (λ (r : Items). r .bits) (f run l a))
+      ∙ sym (counters-are e st g))
+      (ramp-is e st h ∙ ramps-told e sound st ok h g o f ∙ sym (ramp-is e st g))
+      (watts-is e st h ∙ ap (λ (r : Items). r .watts) now ∙ sym (watts-is e st g))
+      (vars-is e st h ∙ ap (λ (r : Items). r .vars) now ∙ sym (vars-is e st g))
+
+  -- ---- equal records: equal reports after every run
+
+  abbrev stepped : Board → List Slice → Board
+  stepped b [] = b
+  stepped b (x ∷ run) = stepped (next e st x b) run
+
+  stepped-is : (run : List Slice) (h : History) → stepped (recordOf e st h) run ≡ recordOf e st (followedBy h run)
+  stepped-is [] h = refl
+  stepped-is (x ∷ run) h = ap (λ (b : Board). stepped b run) (next-is e st h x) ∙ stepped-is run (x ∷ h)
+
+  records-agree : (h g : History) → recordOf e st h ≡ recordOf e st g → Agree e st h g
+  records-agree h g p run l a = sym (at h) ∙ ap (λ (b : Board). shown e st (stepped b run)) p ∙ at g
+    where
+      at : (k : History) → shown e st (stepped (recordOf e st k) run) ≡ historyReport e st (followedBy k run)
+      at k = ap (shown e st) (stepped-is run k) ∙ shown-is e st (followedBy k run)
+
+  -- ---- the image saved after a list of calls
+
+  saved-is : (cs : List Call) → Under st cs → (buffer : List ℕ) → imageLength ≤ length buffer
+      → take imageLength (savedInto (runOf (ruledBy e) cs .board) buffer) ≡ image (recordOf e st (heard cs))
+  unfolding savedInto
+  saved-is cs u buffer room =
+      rw (le-leb imageLength (length buffer) room, ap (λ (r : Run). r .board) (run-is e st ok cs u))
+      (take-at (image (recordOf e st (heard cs))) (drop imageLength buffer) imageLength long)
+    where
+      long : length (image (recordOf e st (heard cs))) ≡ imageLength
+      long = image-length (recordOf e st (heard cs)) (ap length (counters-are e st (heard cs)))
+
+  two-histories : TwoHistoriesBy savedInto (historyReport e) (ruledBy e) st
+  two-histories ps qs up uq a b ra rb =
+      let fp = record-fits (heard ps) (heard-accepted ps [] tt) in
+      let fq = record-fits (heard qs) (heard-accepted qs [] tt) in (
+        (λ p. records-agree (heard ps) (heard qs) (image-inj _ _ fp fq (sym (saved-is ps up a ra) ∙ p ∙ saved-is qs uq b rb))),
+        (λ f. saved-is ps up a ra ∙ ap image (records-told (heard ps) (heard qs) (heard-accepted ps [] tt) (heard-accepted qs [] tt) f) ∙ sym (saved-is qs uq b rb)),
+      )
+
+pub demand3 : (e : Equipment) → Sound e → Demand3 e (ruledBy e)
+demand3 e sound st ok = two-histories e sound st ok

@@ -1,0 +1,61 @@
+// Document 01, rule 3: the operating region.
+ghost use mathlib.Core.Path.{_≡_};
+ghost use Rattle.rules.specs.Regions.{voltageRegion, frequencyRegion, rank, worse};
+use rules::Region;
+
+// The region of a voltage (Category III).
+pub fn voltage_region(v: u32) -> Region
+    ensures { λ r. ⌜ r ≡ voltageRegion v ⌝ }
+{
+    if 12000 < v {
+        Region::Cease
+    } else if 11000 < v {
+        Region::Momentary
+    } else if 8800 <= v {
+        Region::Continuous
+    } else if 5000 <= v {
+        Region::Mandatory
+    } else {
+        Region::Momentary
+    }
+}
+
+pub fn frequency_region(f: u32) -> Region
+    ensures { λ r. ⌜ r ≡ frequencyRegion f ⌝ }
+{
+    if f < 58800 {
+        return Region::Mandatory;
+    }
+    if 61200 < f {
+        return Region::Mandatory;
+    }
+    Region::Continuous
+}
+
+// Continuous, mandatory, momentary, cease.
+fn order(r: Region) -> u8
+    ensures { λ n. ⌜ n ≡ rank r ⌝ }
+{
+    match r {
+        Region::Continuous => 0,
+        Region::Mandatory => 1,
+        Region::Momentary => 2,
+        Region::Cease => 3,
+    }
+}
+
+fn worst(a: Region, b: Region) -> Region
+    ensures { λ r. ⌜ r ≡ worse a b ⌝ }
+{
+    if order(b) <= order(a) { a } else { b }
+}
+
+// The worst of lowest voltage, highest voltage and frequency.
+pub fn region(low: u32, high: u32, frequency: u32) -> Region
+    ensures { λ r. ⌜ r ≡ worse (voltageRegion low) (worse (voltageRegion high) (frequencyRegion frequency)) ⌝ }
+{
+    let a = voltage_region(low);
+    let b = voltage_region(high);
+    let c = frequency_region(frequency);
+    worst(a, worst(b, c))
+}

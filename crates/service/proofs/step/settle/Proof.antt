@@ -1,0 +1,49 @@
+-- `service::step::settle` meets its contract: its parts are those of the record that the rules leave (`Stepping.antt`).
+-- Assumes nothing.
+use native.Mathlib.Omega.{arith}
+use Rattle.laws.proofs.Accepted.{sheet-rows}
+use Rattle.service.proofs.Stepping.{fits16, kept32, kept16, settle-is}
+use borrow.Author.Needs.{needs}
+use Rattle.service.proofs.step.settle.Statement.{statement}
+use Rattle.service.proofs.step.settle.Tie as tie
+
+status-of-requires : tie.Need-status-of-requires
+status-of-requires c κs = search needs
+
+share-requires : tie.Need-share-requires
+share-requires c κs =
+    let k = sheet-rows (c .before .args .s) (c .before .pre .0 .sheet) in (omega arith, omega arith, omega arith)
+
+powers-in-requires : tie.Need-powers-in-requires
+powers-in-requires c κs = search needs
+
+cast-watts : tie.Need-cast-watts
+cast-watts c = search needs
+
+cast-vars : tie.Need-cast-vars
+cast-vars c =
+    let p = c .before .before .before .before .powers-in in rw (kept32 (p .result .vars) (p .ensures .1 .1 .1)) (fits16 (p .result .vars) (p .ensures .1 .1 .1))
+
+cast-t16 : tie.Need-cast-t16
+cast-t16 c = search needs
+
+returns : tie.Need-returns
+returns c =
+    λ x q area bits.
+    let a = c .before .before .before .before .before .before .before .args in
+    let p = c .before .before .before .before .powers-in in
+    let back = kept16 (p .result .vars) (p .ensures .1 .1 .1) in
+    rw back
+    (settle-is (a .s) x (a .c .n) (a .on) (a .area) (a .c .bits) (a .ramp) (c .before .before .before .before .before .before .status-of .result) (c .before .before .before .before .before .share .result) (p .result .watts) (p .result .vars) area bits (c .before .before .before .before .before .before .status-of .ensures) (c .before .before .before .before .before .share .ensures .0) (p .ensures .0 x q) (p .ensures .1 .0 x q))
+
+pub settle-spec : {M : Type 1} → statement M
+settle-spec =
+    tie.close
+    (tie.spec
+    status-of-requires
+    share-requires
+    powers-in-requires
+    cast-watts
+    cast-vars
+    cast-t16
+    returns)

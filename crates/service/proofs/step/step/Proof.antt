@@ -1,0 +1,45 @@
+-- `service::step::step` meets its contract: refused settings change nothing, and under accepted ones the sample decides.
+-- Assumes nothing.
+use mathlib.Core.Path.{_≡_, sym, ap, _∙_}
+use denote.Ref.{now}
+use Rattle.rules.specs.Settings.{isAccepted}
+use Rattle.service.proofs.Stepping.{settings-refused}
+use borrow.Author.Needs.{needs}
+use Rattle.service.proofs.step.step.Statement.{statement}
+use Rattle.service.proofs.step.step.Tie as tie
+
+check-requires : tie.Need-check-requires
+check-requires c κs = search needs
+
+enum-known-cause : tie.Need-enum-known-cause
+enum-known-cause c = search needs
+
+enum-told : tie.Need-enum-told
+enum-told c = search needs
+
+table-requires : tie.Need-table-requires
+table-requires c κs = search needs
+
+step-accepted-requires : tie.Need-step-accepted-requires
+step-accepted-requires c κs =
+    (c .before .table .ensures, ap isAccepted (sym (c .before .before .before .before .check .ensures) ∙ c .before .before .enum-told .given .1))
+
+returns : tie.Need-returns
+returns c =
+    let s = c .before .before .before .before .before in
+    sym (settings-refused (s .args .s) (now (s .args .x)) (s .args .b) _ _ (sym (c .before .before .before .check .ensures) ∙ c .before .cause .given .1))
+
+returns-2 : tie.Need-returns-2
+returns-2 c = search needs
+
+pub step-spec : {M : Type 1} → statement M
+step-spec =
+    tie.close
+    (tie.spec
+    check-requires
+    enum-known-cause
+    enum-told
+    table-requires
+    step-accepted-requires
+    returns
+    returns-2)

@@ -1,0 +1,43 @@
+// Document 01, rule 8: watts and vars.
+ghost use mathlib.Core.Path.{_≡_};
+ghost use Prim.Native.Nat.{_≤_};
+ghost use lib.IntN.{natAbs};
+ghost use Rattle.rules.specs.Samples.{Slice};
+ghost use Rattle.rules.specs.Regions.{ourEquipment};
+ghost use Rattle.rules.specs.Service.{varsOf, wattsOf};
+ghost use Rattle.readings.specs.Readings.{readingOf, Exportable};
+use power::volt_var;
+use power::volt_watt;
+use power::within_nameplate;
+use readings::reading::Reading;
+use readings::reading::least;
+use rules::Settings;
+
+pub struct Powers {
+    pub watts: u32,
+    pub vars: i32,
+}
+
+// What a board in this status gives. In statuses 1 to 3 the curves are read at the mean voltage; in others both powers are 0.
+pub fn powers_in(r: Reading, s: Settings, status: u8, share: u32) -> Powers
+    requires { ⌜ Exportable r s ⌝ }
+    ensures { λ p. ⌜ ((x : Slice) → readingOf x ≡ r → p .vars ≡ varsOf ourEquipment s x status) ⌝ }
+    ensures { λ p. ⌜ ((x : Slice) → readingOf x ≡ r → p .watts ≡ wattsOf ourEquipment s x status share) ⌝ }
+    ensures { λ p. ⌜ (p .watts ≤ 10000) × (natAbs (p .vars) ≤ 10000) ⌝ }
+{
+    if status < 1 {
+        return Powers { watts: 0, vars: 0 };
+    }
+    if 3 < status {
+        return Powers { watts: 0, vars: 0 };
+    }
+    let v = r.sum / 3;
+    let var = s.var;
+    let watt = s.watt;
+    let vars = volt_var(var, v);
+    let curve = volt_watt(watt, v);
+    let asked = least(r.available, r.limit);
+    let given = least(share, curve);
+    let watts = within_nameplate(least(asked, given), vars);
+    Powers { watts, vars }
+}

@@ -1,0 +1,200 @@
+// Document 01, "One sample": the step, by value.
+ghost use mathlib.Core.Path.{_≡_};
+ghost use mathlib.Core.Bool.{Bool, true, cond};
+ghost use mathlib.Core.List.{List, [], _∷_, _++_};
+ghost use Prim.Native.Nat.{_*_, _/_, _≤_, min};
+ghost use Rattle.rules.specs.Tests.{any};
+ghost use Rattle.rules.specs.Settings.{settingsAccepted};
+ghost use Rattle.rules.specs.Samples.{Slice};
+ghost use Rattle.rules.specs.Regions.{regionOf, isContinuous, ourEquipment};
+ghost use Rattle.rules.specs.Service.{serves, ramped, statusOf, inService};
+ghost use Rattle.rules.specs.Reports.{packedAfter};
+ghost use Rattle.rules.specs.Records.{fresh, settled, next, stepOf};
+ghost use Rattle.sensing.specs.Tables.{IsTable};
+ghost use Rattle.readings.specs.Readings.{readingOf, Exportable};
+ghost use Rattle.service.specs.Steps.{Bits, reported};
+use crate::powers::powers_in;
+use readings::counters::Counters;
+use readings::counters::count_all;
+use readings::reading::Reading;
+use readings::reading::check;
+use readings::reading::read;
+use readings::regions::region;
+use rules::Answer;
+use rules::Board;
+use rules::Region;
+use rules::Report;
+use rules::SampleCheck;
+use rules::Settings;
+use rules::SettingsCheck;
+use rules::Stepped;
+use sensing::table;
+
+// A fresh board: tripped, with all counters, ramp, watts and vars 0.
+pub fn fresh() -> Board
+    ensures { λ b. ⌜ b ≡ fresh ⌝ }
+{
+    Board {
+        status: 0,
+        counters: [0; 9],
+        ramp: 0,
+        watts: 0,
+        vars: 0,
+    }
+}
+
+// An unknown status is read as tripped.
+fn in_service(status: u8) -> bool
+    ensures { λ r. ⌜ r ≡ inService status ⌝ }
+{
+    if status < 1 {
+        return false;
+    }
+    status <= 5
+}
+
+// Rule 4: in service after the step. The lowest of the nine bits is ready, the others are the limits'.
+fn in_service_after(was: bool, permit: bool, bits: u16) -> bool
+    ensures { λ r. ⌜ ((trips : List Bool) (ready : Bool) → bits ≡ packedAfter 0 (trips ++ (ready ∷ [])) → r ≡ serves was permit (any trips) ready) ⌝ }
+{
+    if was {
+        if !permit {
+            return false;
+        }
+        return bits < 2;
+    }
+    bits % 2 == 1
+}
+
+fn is_continuous(region: Region) -> bool
+    ensures { λ r. ⌜ r ≡ isContinuous region ⌝ }
+{
+    match region {
+        Region::Continuous => true,
+        Region::Mandatory => false,
+        Region::Momentary => false,
+        Region::Cease => false,
+    }
+}
+
+// Rule 4: the ramp count after the step; a count above its top is read as the top, a tripped board's as 0.
+fn ramp_after(was: bool, on: bool, continuous: bool, length: u32, old: u32) -> u32
+    ensures { λ r. ⌜ r ≡ ramped was on continuous length (cond was (min length old) 0) ⌝ }
+{
+    if !on {
+        return 0;
+    }
+    if !was {
+        return 0;
+    }
+    if length <= old {
+        return length;
+    }
+    if continuous { old + 1 } else { old }
+}
+
+// Rule 5.
+fn status_of(on: bool, region: Region, full: bool) -> u8
+    ensures { λ r. ⌜ r ≡ statusOf on region full ⌝ }
+{
+    if !on {
+        return 0;
+    }
+    match region {
+        Region::Continuous => {
+            if full {
+                return 2;
+            }
+            1
+        }
+        Region::Mandatory => 3,
+        Region::Momentary => 4,
+        Region::Cease => 5,
+    }
+}
+
+// Rule 6. No division where the ramp is full.
+fn share(ramp: u32, length: u32) -> u32
+    requires { ⌜ (ramp ≤ length) × (1 ≤ length) × (length ≤ 100000) ⌝ }
+    ensures { λ r. ⌜ r ≡ 10000 * ramp / length ⌝ }
+    ensures { λ r. ⌜ r ≤ 10000 ⌝ }
+{
+    if ramp == length {
+        return 10000;
+    }
+    10000 * ramp / length
+}
+
+// Rules 5 to 8: the record and the report, from the counters, in service, the region and the ramp count.
+fn settle(s: Settings, r: Reading, c: Counters, on: bool, area: Region, ramp: u32) -> Stepped
+    requires { ⌜ (Exportable r s) × (ramp ≤ s .ramp) ⌝ }
+    ensures { λ t. ⌜ ((x : Slice) → readingOf x ≡ r → regionOf ourEquipment x ≡ area → Bits s x (c .n) (c .bits) → t ≡ reported s (settled ourEquipment s x (c .n) on ramp)) ⌝ }
+{
+    let length = s.ramp;
+    let status = status_of(on, area, ramp == length);
+    let part = share(ramp, length);
+    let p = powers_in(r, s, status, part);
+    let n = c.n;
+    let watts = p.watts as u16;
+    let vars = p.vars as i16;
+    Stepped {
+        board: Board {
+            status,
+            counters: n,
+            ramp,
+            watts,
+            vars,
+        },
+        answer: Answer::Reported(Report {
+            status,
+            bits: c.bits,
+            share: part as u16,
+            watts,
+            vars,
+        }),
+    }
+}
+
+// Rules 1 to 8, on what is read from an accepted sample.
+fn advance(b: Board, s: Settings, r: Reading) -> Stepped
+    requires { ⌜ Exportable r s ⌝ }
+    ensures { λ t. ⌜ ((x : Slice) → readingOf x ≡ r → t ≡ reported s (next ourEquipment s x b)) ⌝ }
+{
+    let old = b.counters;
+    let c = count_all(old, r, s);
+    let was = in_service(b.status);
+    let on = in_service_after(was, r.permit, c.bits);
+    let area = region(r.low, r.high, r.frequency);
+    let ramp = ramp_after(was, on, is_continuous(area), s.ramp, b.ramp);
+    settle(s, r, c, on, area, ramp)
+}
+
+// The step under settings that are accepted and with the sensing table lent: only the sample is checked.
+pub fn step_accepted(table: &[u16; 4096], b: Board, s: Settings, x: &[u32]) -> Stepped
+    requires { ⌜ (IsTable (now table)) × (settingsAccepted s ≡ true) ⌝ }
+    ensures { λ t. ⌜ t ≡ stepOf ourEquipment b s (now (x .entry)) ⌝ }
+{
+    match check(x) {
+        SampleCheck::Refused(cause) => Stepped {
+            board: b,
+            answer: Answer::Refused(cause),
+        },
+        SampleCheck::Accepted => advance(b, s, read(table, x)),
+    }
+}
+
+// The step: settings are checked for 2 and 3 in sheet order, then the slice for 8, 4, 5, 6, 7; a refused call changes nothing.
+pub fn step(b: Board, s: Settings, x: &[u32]) -> Stepped
+    ensures { λ t. ⌜ t ≡ stepOf ourEquipment b s (now (x .entry)) ⌝ }
+{
+    match settings::check(s) {
+        SettingsCheck::Refused(cause, _) => Stepped {
+            board: b,
+            answer: Answer::Refused(cause),
+        },
+        SettingsCheck::Accepted => {
+            let t = table();
+            step_accepted(&t, b, s, x)
+        }
+    }
+}
