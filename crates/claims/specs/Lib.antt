@@ -3,3 +3,4 @@ pub mod Held
 pub mod Sound
 pub mod TripAndReturn
 pub mod TwoHistories
+pub mod FirstCause

@@ -10,12 +10,19 @@ use Rattle.rules.specs.Images.{savedInto}
 use Rattle.claims.specs.Calls.{Program, ruledBy}
 use Rattle.claims.specs.Sound.{Sound}
 use Rattle.claims.specs.TripAndReturn.{Demand2}
+use Rattle.claims.specs.FirstCause.{RefusesRightly}
 use Rattle.claims.specs.TwoHistories.{Demand3By, Demand3}
 use Rattle.demands.specs.Edges.{EdgesHold}
 use Rattle.demands.specs.Shams.{tripsEarly, inventsCounters, alwaysTripped, repeatsFirst, keepsRecord, savedWithoutRamp, savedWithoutNinth, reportWithoutBits}
 
 abbrev pub ours : Program
 ours = ruledBy ourEquipment
+
+-- Demand 1, for the library. Every public operation refuses with n exactly when n is the first cause in document 01's order, accepts input
+-- with none of the causes, and a refusal leaves the record and every lent byte as they were. (That the operations stay inside their
+-- buffers and their arithmetic and end is part of each function's own proof; that they give these answers is their contracts.)
+abbrev pub OurRefusals : Type 0
+OurRefusals = RefusesRightly ourEquipment
 
 -- Demand 2. Under every accepted sheet, for every list of step calls, refused ones included, on one record from a fresh board:
 -- the last report is the one that the accepted samples alone give, in their order; the record is the one that they give;

@@ -11,3 +11,4 @@ pub mod Ramps
 pub mod Images
 pub mod Curves
 pub mod Demand3
+pub mod FirstCause

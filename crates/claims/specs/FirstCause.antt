@@ -1,0 +1,60 @@
+-- Demand 1, for the library: document 01, "Turned-away input", as the list of causes of each public operation in its order.
+-- Assumes nothing.
+use mathlib.Core.Path.{_≡_}
+use mathlib.Core.Bool.{Bool, true, false, cond, not, _||_}
+use mathlib.Core.List.{List, [], _∷_, _++_, map}
+use Prim.Native.Nat.{ℕ, _<_}
+use lib.Dec.{ltb, eqb}
+use lib.ListN.{length}
+use Rattle.rules.specs.Tests.{all, within}
+use Rattle.rules.specs.Sensing.{lastCode, sensed}
+use Rattle.rules.specs.Settings.{Pair, Row, rows, inRow, rising, linesOf, settingsCheck}
+use Rattle.rules.specs.Refusals.{settingsNumber, sensedNumber, answerNumber, savedNumber}
+use Rattle.rules.specs.Samples.{Slice, Equipment, codeOf, frequency, permission, available, operatorLimit}
+use Rattle.rules.specs.Records.{stepOf}
+use Rattle.rules.specs.Images.{imageLength, saveCheck, savedInto}
+use Rattle.rules.specs.declared.Settings.{Settings}
+use Rattle.rules.specs.declared.Board.{Board}
+
+-- a row of the table of turned-away input: its number, and whether it is so of the input
+pub record Cause : Type 0 where
+  pub number : ℕ
+  pub holds : Bool
+
+abbrev pub cause : ℕ → Bool → Cause
+cause n b = record { number = n; holds = b }
+
+-- "The first found is given": the number of the first cause that holds, 0 where none does
+abbrev pub first : List Cause → ℕ
+first [] = 0
+first (c ∷ cs) = cond (c .holds) (c .number) (first cs)
+
+-- a line's causes: a number outside its row, voltages that do not rise strictly
+abbrev pub lineCauses : List Row → List (List Pair) → List Cause
+lineCauses [] lines = []
+lineCauses (r ∷ rs) [] = []
+lineCauses (r ∷ rs) (ps ∷ lines) = cause 2 (not (all (map (inRow r) ps))) ∷ cause 3 (not (rising ps)) ∷ lineCauses rs lines
+
+-- "Sheet lines are checked in order, each for [2, 3]"
+abbrev pub settingsCauses : Settings → List Cause
+settingsCauses st = lineCauses rows (linesOf st)
+
+-- "samples for 8, 4, 5, 6, 7"
+abbrev pub sampleCauses : Slice → List Cause
+sampleCauses x =
+    cause 8 (not (eqb (length x) 7))
+    ∷ cause 4 (ltb lastCode (codeOf x 0) || (ltb lastCode (codeOf x 1) || ltb lastCode (codeOf x 2)))
+    ∷ cause 5 (ltb (frequency x) 40000 || ltb 80000 (frequency x))
+    ∷ cause 6 (ltb 1 (permission x))
+    ∷ cause 7 (ltb 10000 (available x) || ltb 10000 (operatorLimit x))
+    ∷ []
+
+-- what is claimed of each public operation: its answer's number is that of the first cause, so it refuses with n exactly when n is the
+-- first cause and accepts input with none; and a refusal changes nothing
+pub record RefusesRightly (e : Equipment) : Type 0 where
+  pub check : (st : Settings) → settingsNumber (settingsCheck st) ≡ first (settingsCauses st)
+  pub sense : (code : ℕ) → sensedNumber (sensed code) ≡ first (cause 4 (ltb lastCode code) ∷ [])
+  pub step : (b : Board) (st : Settings) (x : Slice) → answerNumber (stepOf e b st x .answer) ≡ first (settingsCauses st ++ sampleCauses x)
+  pub step-keeps : (b : Board) (st : Settings) (x : Slice) → 0 < answerNumber (stepOf e b st x .answer) → stepOf e b st x .board ≡ b
+  pub save : (buffer : List ℕ) → savedNumber (saveCheck buffer) ≡ first (cause 9 (ltb (length buffer) imageLength) ∷ [])
+  pub save-keeps : (b : Board) (buffer : List ℕ) → 0 < savedNumber (saveCheck buffer) → savedInto b buffer ≡ buffer

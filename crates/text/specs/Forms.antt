@@ -1,0 +1,51 @@
+-- The fourteen forms by number, and the numbers that a text begins with by a form.
+-- Assumes nothing.
+use mathlib.Core.Bool.{cond}
+use mathlib.Core.List.{List, [], _∷_, _++_}
+use mathlib.Core.Option.{Option, none, some}
+use Prim.Native.Nat.{ℕ, _+_}
+use lib.Dec.{eqb}
+use lib.IntN.{ℤ}
+use lib.ListN.{length, getD}
+use Rattle.rules.specs.Text.{Taken}
+use Rattle.rules.specs.Forms.{sheetForms, sampleForm}
+use Rattle.formats.specs.Marks.{isMark, takeMarked}
+
+-- the sheet's lines from 0, and then the sample line
+unfoldable pub forms : List (List ℕ)
+forms = sheetForms ++ (sampleForm ∷ [])
+
+abbrev pub formAt : ℕ → List ℕ
+formAt i = getD forms i []
+
+-- lists, one after the other
+abbrev pub joined : List (List ℕ) → List ℕ
+joined [] = []
+joined (f ∷ fs) = f ++ joined fs
+
+-- where each of them begins, the first at n, and where the last one ends
+abbrev pub startsFrom : ℕ → List (List ℕ) → List ℕ
+startsFrom n [] = n ∷ []
+startsFrom n (f ∷ fs) = n ∷ startsFrom (n + length f) fs
+
+-- the numbers of a form that a text begins with, and the text after it
+pub record Formed : Type 0 where
+  pub numbers : List ℤ
+  pub rest : List ℕ
+
+-- numbers before those that are found
+abbrev pub after : List ℤ → Option Formed → Option Formed
+after ns none = none
+after ns (some f) = some (record { numbers = ns ++ f .numbers; rest = f .rest })
+
+abbrev pub takenThen : Option Taken → (List ℕ → Option Formed) → Option Formed
+takenThen none rest = none
+takenThen (some t) rest = after (t .value ∷ []) (rest (t .rest))
+
+abbrev pub byteThen : ℕ → List ℕ → (List ℕ → Option Formed) → Option Formed
+byteThen mark [] rest = none
+byteThen mark (b ∷ s) rest = cond (eqb b mark) (rest s) none
+
+unfoldable pub takeForm : List ℕ → List ℕ → Option Formed
+takeForm [] s = some (record { numbers = []; rest = s })
+takeForm (mark ∷ form) s = cond (isMark mark) (takenThen (takeMarked mark s) (takeForm form)) (byteThen mark s (takeForm form))
