@@ -1,4 +1,4 @@
--- Document 01, "Two histories": lists of step calls on one record, and which samples they were heard to give.
+-- Document 01, "Two histories": lists of step calls on one record, and the accepted samples among them.
 -- Assumes nothing.
 use mathlib.Core.Path.{_≡_}
 use mathlib.Core.Bool.{Bool, true, false, cond, _&&_}
@@ -25,7 +25,7 @@ pub record Program : Type 0 where
   pub start : Board
   pub step : Board → Settings → Slice → Stepped
 
--- ours: a fresh board, and the step by document 01's rules
+-- the program that the rules describe, with this equipment: a fresh board, and the step by document 01's rules
 abbrev pub ruledBy : Equipment → Program
 ruledBy e = record { start = fresh; step = stepOf e }
 

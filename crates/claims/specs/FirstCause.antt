@@ -1,12 +1,12 @@
 -- Demand 1, for the library: document 01, "Turned-away input", as the list of causes of each public operation in its order.
 -- Assumes nothing.
 use mathlib.Core.Path.{_≡_}
-use mathlib.Core.Bool.{Bool, true, false, cond, not, _||_}
+use mathlib.Core.Bool.{Bool, cond, not, _||_}
 use mathlib.Core.List.{List, [], _∷_, _++_, map}
-use Prim.Native.Nat.{ℕ, _<_}
+use Prim.Native.Nat.{ℕ, suc, _<_}
 use lib.Dec.{ltb, eqb}
-use lib.ListN.{length}
-use Rattle.rules.specs.Tests.{all, within}
+use lib.ListN.{length, drop}
+use Rattle.rules.specs.Tests.{all}
 use Rattle.rules.specs.Sensing.{lastCode, sensed}
 use Rattle.rules.specs.Settings.{Pair, Row, rows, inRow, rising, linesOf, settingsCheck}
 use Rattle.rules.specs.Refusals.{settingsNumber, sensedNumber, answerNumber, savedNumber}
@@ -15,6 +15,7 @@ use Rattle.rules.specs.Records.{stepOf}
 use Rattle.rules.specs.Images.{imageLength, saveCheck, savedInto}
 use Rattle.rules.specs.declared.Settings.{Settings}
 use Rattle.rules.specs.declared.Board.{Board}
+use Rattle.rules.specs.declared.SettingsCheck.{SettingsCheck}
 
 -- a row of the table of turned-away input: its number, and whether it is so of the input
 pub record Cause : Type 0 where
@@ -49,12 +50,25 @@ sampleCauses x =
     ∷ cause 7 (ltb 10000 (available x) || ltb 10000 (operatorLimit x))
     ∷ []
 
+-- the sheet line of the first cause, from line n on, two causes a line; 0 where none holds
+abbrev pub causeLine : ℕ → List Cause → ℕ
+causeLine n [] = 0
+causeLine n (c ∷ []) = 0
+causeLine n (c ∷ d ∷ cs) = cond (c .holds || d .holds) n (causeLine (suc n) cs)
+
+abbrev pub lineOf : SettingsCheck → ℕ
+lineOf SettingsCheck.Accepted = 0
+lineOf (SettingsCheck.Refused cause line) = line
+
 -- what is claimed of each public operation: its answer's number is that of the first cause, so it refuses with n exactly when n is the
 -- first cause and accepts input with none; and a refusal changes nothing
 pub record RefusesRightly (e : Equipment) : Type 0 where
   pub check : (st : Settings) → settingsNumber (settingsCheck st) ≡ first (settingsCauses st)
+  pub check-line : (st : Settings) → lineOf (settingsCheck st) ≡ causeLine 1 (settingsCauses st)
   pub sense : (code : ℕ) → sensedNumber (sensed code) ≡ first (cause 4 (ltb lastCode code) ∷ [])
   pub step : (b : Board) (st : Settings) (x : Slice) → answerNumber (stepOf e b st x .answer) ≡ first (settingsCauses st ++ sampleCauses x)
   pub step-keeps : (b : Board) (st : Settings) (x : Slice) → 0 < answerNumber (stepOf e b st x .answer) → stepOf e b st x .board ≡ b
   pub save : (buffer : List ℕ) → savedNumber (saveCheck buffer) ≡ first (cause 9 (ltb (length buffer) imageLength) ∷ [])
   pub save-keeps : (b : Board) (buffer : List ℕ) → 0 < savedNumber (saveCheck buffer) → savedInto b buffer ≡ buffer
+  -- "Bytes after it are untouched"
+  pub save-rest : (b : Board) (buffer : List ℕ) → length (b .counters) ≡ 9 → drop imageLength (savedInto b buffer) ≡ drop imageLength buffer

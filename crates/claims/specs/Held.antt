@@ -14,7 +14,7 @@ use Rattle.rules.specs.declared.Settings.{Settings}
 -- the test held at each of the newest n samples, and as many have come: with fewer it does not hold
 pub record Held (test : Slice → Bool) (n : ℕ) (h : History) : Type 0 where
   pub enough : n ≤ length h
-  pub each : (k : ℕ) → k < n → test (getD h k []) ≡ true
+  pub throughout : (k : ℕ) → k < n → test (getD h k []) ≡ true
 
 -- limit i of the eight, in sheet order, is broken by a sample
 abbrev pub brokenAt : Equipment → Settings → ℕ → Slice → Bool

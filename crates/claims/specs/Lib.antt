@@ -1,6 +1,6 @@
 pub mod Calls
 pub mod Held
 pub mod Sound
+pub mod FirstCause
 pub mod TripAndReturn
 pub mod TwoHistories
-pub mod FirstCause

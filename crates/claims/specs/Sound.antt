@@ -17,4 +17,4 @@ pub record Sound (e : Equipment) : Type 0 where
   pub nominal-low : 9500 ≤ e .sensing nominal
   pub nominal-high : e .sensing nominal ≤ 10500
   -- 8800–11000 is the continuous operation region
-  pub even : (v : ℕ) → 8800 ≤ v → v ≤ 11000 → e .region v ≡ Continuous
+  pub continuous : (v : ℕ) → 8800 ≤ v → v ≤ 11000 → e .region v ≡ Continuous

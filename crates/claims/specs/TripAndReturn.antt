@@ -7,17 +7,20 @@ use mathlib.Core.List.{List, [], _∷_, _++_, map}
 use Prim.Native.Nat.{ℕ, min}
 use Rattle.rules.specs.Settings.{settingsAccepted}
 use Rattle.rules.specs.Samples.{Slice, Equipment, permitted}
-use Rattle.rules.specs.Counters.{Rule, rules}
+use Rattle.rules.specs.Counters.{Rule, counted, full, rules}
 use Rattle.rules.specs.Regions.{regionOf}
+use Rattle.rules.specs.Refusals.{answerNumber}
 use Rattle.rules.specs.Service.{inService}
 use Rattle.rules.specs.Reports.{reportOf}
 use Rattle.rules.specs.Records.{fresh, settled}
 use Rattle.rules.specs.History.{History, streak, serving, climbed, historyReport}
 use Rattle.rules.specs.declared.Settings.{Settings}
 use Rattle.rules.specs.declared.Board.{Board}
+use Rattle.rules.specs.declared.Answer.{Answer}
 use Rattle.rules.specs.declared.Region.the-variants.{Continuous}
 use Rattle.claims.specs.Calls.{Call, Program, Run, called, runOf, callAccepted, heard, LendsUnder, Under}
-use Rattle.claims.specs.Held.{RanOut, WaitFull}
+use Rattle.claims.specs.Held.{Held, RanOut, WaitFull}
+use Rattle.claims.specs.FirstCause.{first, settingsCauses, sampleCauses}
 
 -- ---- the record that a history gives
 
@@ -30,6 +33,10 @@ recordOf e st (x ∷ h) =
     settled e st x (map (countOf (x ∷ h)) (rules e st)) (serving e st (x ∷ h)) (min (st .ramp) (climbed e st (x ∷ h)))
 
 -- ---- what is claimed, under an accepted sheet
+
+-- what a call after a list of calls is answered
+abbrev pub answerTo : Program → List Call → Call → Answer
+answerTo p cs c = p .step (runOf p cs .board) (c .settings) (c .slice) .answer
 
 -- before and now, where a list of calls is followed by an accepted one
 abbrev pub statusBefore : Program → List Call → ℕ
@@ -47,6 +54,12 @@ pub record Next (st : Settings) (cs : List Call) (c : Call) : Type 0 where
 pub record TripAndReturn (e : Equipment) (p : Program) (st : Settings) : Type 0 where
   -- the last report is the one that the accepted samples alone give, or the fresh board's where there are none
   pub shows : (cs : List Call) → Under st cs → runOf p cs .report ≡ reportOf (historyReport e st (heard cs))
+  -- an accepted sample is answered, with the report that the accepted samples alone give
+  pub answers : (cs : List Call) (c : Call) → Next st cs c
+      → answerTo p cs c ≡ Answer.Reported (reportOf (historyReport e st (c .slice ∷ heard cs)))
+  -- a call is refused by the number of its first cause, and only then
+  pub refuses : (cs : List Call) (c : Call) → Under st cs
+      → answerNumber (answerTo p cs c) ≡ first (settingsCauses (c .settings) ++ sampleCauses (c .slice))
   -- the record is the one that they give
   pub keeps : (cs : List Call) → Under st cs → runOf p cs .board ≡ recordOf e st (heard cs)
   -- in service, it trips at a step exactly when permission is off or some limit has been broken for its whole clearing time, ending there
@@ -56,9 +69,16 @@ pub record TripAndReturn (e : Equipment) (p : Program) (st : Settings) : Type 0 
   pub returns : (cs : List Call) (c : Call) → Next st cs c → statusBefore p cs ≡ 0
       → (inService (statusNow p cs c) ≡ true) ↔ WaitFull e st (c .slice ∷ heard cs)
   -- a return is always in the continuous operation region
-  pub returns-even : (cs : List Call) (c : Call) → Next st cs c → statusBefore p cs ≡ 0 → inService (statusNow p cs c) ≡ true
+  pub returns-continuous : (cs : List Call) (c : Call) → Next st cs c → statusBefore p cs ≡ 0 → inService (statusNow p cs c) ≡ true
       → regionOf e (c .slice) ≡ Continuous
 
--- demand 2, of a board program: under every accepted sheet
+-- the counter rule, for an arbitrary rule: its counter is full exactly when what it counts held at each of the last samples of its whole
+-- time, ending at the newest; and one sample more counts as document 01 says
+pub record CounterRule (r : Rule) : Type 0 where
+  pub full-held : (h : History) → (full r (countOf h r) ≡ true) ↔ Held (r .counts) (r .top) h
+  pub one-more : (x : Slice) (h : History) → counted x r (countOf h r) ≡ countOf (x ∷ h) r
+
+-- demand 2, of a board program: under every accepted sheet. (`Settings` here also has lists of other lengths than the declared arrays
+-- have; the claim covers those too.)
 abbrev pub Demand2 : Equipment → Program → Type 0
 Demand2 e p = (st : Settings) → settingsAccepted st ≡ true → TripAndReturn e p st

@@ -20,6 +20,7 @@ AllAccepted [] = Unit {0}
 AllAccepted (x ∷ xs) = (sampleAccepted x ≡ true) × AllAccepted xs
 
 -- "A common run is 0 to 100,000 accepted samples, the same put after both lists; the reports compared are those at its end."
+-- Items are compared, not the packed report: there are always nine bits, so the two agree.
 abbrev pub AgreeBy : (History → Items) → History → History → Type 0
 AgreeBy report h g =
     (run : List Slice) → length run ≤ 100000 → AllAccepted run → report (followedBy h run) ≡ report (followedBy g run)

@@ -36,5 +36,5 @@ our-equipment-sound =
       nominal-code = omega arith;
       nominal-low = nominal-low;
       nominal-high = nominal-high;
-      even = even-region;
+      continuous = even-region;
     }

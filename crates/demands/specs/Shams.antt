@@ -1,73 +1,124 @@
--- Document 01, "What a contract says of the board": the five sham boards that demand 2 must stop; and sham images and reports that
+-- Document 01, "What a contract says of the board": the sham boards that demand 2 must stop; and sham images and reports that
 -- demand 3 must stop.
 -- Assumes nothing.
-use mathlib.Core.Bool.{Bool, true, false, cond, not, _&&_}
+use mathlib.Core.Bool.{Bool, false, cond, _&&_}
 use mathlib.Core.List.{List, [], _∷_, map}
-use Prim.Native.Nat.{ℕ, _+_}
+use Prim.Native.Nat.{ℕ, _*_, _/_}
 use lib.Dec.{eqb, leb}
-use lib.IntN.{pos}
-use lib.ListN.{replicate, set}
+use lib.IntN.{ℤ, pos, negℤ}
+use lib.ListN.{replicate, set, take}
 use Rattle.rules.specs.Tests.{all, any}
 use Rattle.rules.specs.Samples.{Slice}
-use Rattle.rules.specs.Counters.{Rule, rules, tripRules}
 use Rattle.rules.specs.Regions.{ourEquipment}
 use Rattle.rules.specs.Reports.{Items, reportOf}
 use Rattle.rules.specs.History.{History, historyReport}
 use Rattle.rules.specs.Images.{savedInto}
-use Rattle.rules.specs.Records.{fresh, each, shown, stepOf}
+use Rattle.rules.specs.Service.{inService}
+use Rattle.rules.specs.Records.{fresh, settled, shown, stepOf}
+use Rattle.rules.specs.declared.Limit.{Limit}
+use Rattle.rules.specs.declared.Point.{Point}
 use Rattle.rules.specs.declared.Settings.{Settings}
 use Rattle.rules.specs.declared.Board.{Board}
+use Rattle.rules.specs.declared.Refusal.the-variants.{Code}
 use Rattle.rules.specs.declared.Answer.{Answer}
 use Rattle.rules.specs.declared.Stepped.{Stepped}
-use Rattle.claims.specs.Calls.{Program, freshReport}
+use Rattle.claims.specs.Calls.{Program}
+
+-- document 01's default sheet with `(enter (wait W 100))`
+abbrev limit : ℕ → ℕ → Limit
+limit level clearing = record { level = level; clearing = clearing }
+
+abbrev point : ℕ → ℤ → Point
+point v p = record { volts = v; power = p }
+
+abbrev pub exampleSheet : ℕ → Settings
+exampleSheet wait =
+    record {
+      trip =
+          limit 8800 2100
+          ∷ limit 5000 200
+          ∷ limit 11000 1300
+          ∷ limit 12000 16
+          ∷ limit 58500 30000
+          ∷ limit 56500 16
+          ∷ limit 61200 30000
+          ∷ limit 62000 16
+          ∷ [];
+      volts = record { low = 9170; high = 10500 };
+      hertz = record { low = 59500; high = 60100 };
+      wait = wait;
+      ramp = 100;
+      var = point 9200 (pos 4400) ∷ point 9800 (pos 0) ∷ point 10200 (pos 0) ∷ point 10800 (negℤ (pos 4400)) ∷ [];
+      watt = point 10600 (pos 10000) ∷ point 11000 (pos 2000) ∷ [];
+    }
+
+-- ---- sham boards
 
 -- our step, which the shams bend
 abbrev honest : Board → Settings → Slice → Stepped
 honest b st x = stepOf ourEquipment b st x
 
--- "reports tripped before a clearing time is full": as soon as a limit's counter is not 0
+-- a record and the report that it shows
+abbrev reporting : Settings → Board → Stepped
+reporting st b = record { board = b; answer = Answer.Reported (reportOf (shown ourEquipment st b)) }
+
+-- the record of a step, tripped instead
+abbrev trippedInstead : Settings → Slice → Board → Stepped
+trippedInstead st x b = reporting st (settled ourEquipment st x (b .counters) false 0)
+
+-- "reports tripped before a clearing time is full": in service, as soon as a limit's counter is not 0
 unfoldable pub tripsEarly : Program
 tripsEarly =
     record {
       start = fresh;
       step = λ b st x.
           let t = honest b st x in
-          cond (any (map (λ n. leb 1 n) (each (λ (r : Rule) n. n) (tripRules ourEquipment st) (t .board .counters))))
-          (record { board = fresh; answer = Answer.Reported freshReport })
-          t;
+          cond (inService (t .board .status) && any (map (λ n. leb 1 n) (take 8 (t .board .counters)))) (trippedInstead st x (t .board)) t;
     }
 
--- a record whose counters are made up
+-- a record with other counters
 abbrev withCounters : List ℕ → Board → Board
 withCounters ns b = record { status = b .status; counters = ns; ramp = b .ramp; watts = b .watts; vars = b .vars }
 
--- "shows invented counters"
+-- "shows invented counters": its reports are right, and its record holds every counter twice over
 unfoldable pub inventsCounters : Program
 inventsCounters =
     record {
       start = fresh;
-      step = λ b st x. let t = honest b st x in record { board = withCounters (replicate 9 7) (t .board); answer = t .answer };
+      step = λ b st x.
+          let t = honest (withCounters (map (λ n. n / 2) (b .counters)) b) st x in
+          record { board = withCounters (map (λ n. 2 * n) (t .board .counters)) (t .board); answer = t .answer };
     }
 
 -- "is always tripped"
 unfoldable pub alwaysTripped : Program
-alwaysTripped = record { start = fresh; step = λ b st x. record { board = fresh; answer = Answer.Reported freshReport } }
+alwaysTripped =
+    record {
+      start = fresh;
+      step = λ b st x. let t = honest b st x in cond (inService (t .board .status)) (trippedInstead st x (t .board)) t;
+    }
 
--- nothing has come yet
+-- nothing has come yet, as far as the record tells: after a first sample that leaves it fresh, the next one is worked out too
 abbrev untouched : Board → Bool
 untouched b = eqb (b .status) 0 && all (map (λ n. eqb n 0) (b .counters))
 
 -- "works out the first sample and repeats that report"
 unfoldable pub repeatsFirst : Program
-repeatsFirst =
-    record {
-      start = fresh;
-      step = λ b st x. cond (untouched b) (honest b st x) (record { board = b; answer = Answer.Reported (reportOf (shown ourEquipment st b)) });
-    }
+repeatsFirst = record { start = fresh; step = λ b st x. cond (untouched b) (honest b st x) (reporting st b) }
 
 -- "never touches its record"
 unfoldable pub keepsRecord : Program
 keepsRecord = record { start = fresh; step = λ b st x. record { board = b; answer = honest b st x .answer } }
+
+-- "turns away good sheets or samples": it keeps its record as it should, and refuses with 4 every sample whose report is the one before
+unfoldable pub turnsAway : Program
+turnsAway =
+    record {
+      start = fresh;
+      step = λ b st x.
+          let t = honest b st x in
+          record { board = t .board; answer = cond (eqb (b .status) (t .board .status)) (Answer.Refused Code) (t .answer) };
+    }
 
 -- ---- sham images and reports
 

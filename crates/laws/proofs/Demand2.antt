@@ -13,7 +13,7 @@ use Rattle.rules.specs.Tests.{within}
 use Rattle.rules.specs.Settings.{settingsCheck, isAccepted, settingsAccepted, limitAt}
 use Rattle.rules.specs.Samples.{Slice, Equipment, permitted, sampleCheck, sampleAccepted}
 use Rattle.rules.specs.Samples as samples
-use Rattle.rules.specs.Counters.{Kind, kinds, limitRules, readyRule}
+use Rattle.rules.specs.Counters.{Rule, Kind, kinds, limitRules, readyRule}
 use Rattle.rules.specs.Regions.{regionOf}
 use Rattle.rules.specs.Service.{statusOf, inService}
 use Rattle.rules.specs.Reports.{Items, packedAfter, reportOf}
@@ -31,11 +31,13 @@ use Rattle.rules.specs.declared.Stepped.{Stepped}
 use Rattle.claims.specs.Calls.{Call, Program, Run, ruledBy, freshReport, lastReport, called, calledAll, runOf, callAccepted, heardOne, heardAfter, heard, LendsUnder, Under}
 use Rattle.claims.specs.Held.{RanOut, WaitFull}
 use Rattle.claims.specs.Sound.{Sound}
-use Rattle.claims.specs.TripAndReturn.{recordOf, Next, TripAndReturn, Demand2}
+use Rattle.claims.specs.TripAndReturn.{recordOf, Next, TripAndReturn, CounterRule, Demand2}
 use Rattle.laws.proofs.Bools.{both}
 use Rattle.laws.proofs.Limits.{LimitsIn, limits-in}
 use Rattle.laws.proofs.Trace.{service-status, service-is, status-is, next-is, shown-is}
-use Rattle.laws.proofs.Trip.{trip-law, return-law, return-even}
+use Rattle.laws.proofs.Counting.{counted-is, full-is}
+use Rattle.laws.proofs.Trip.{complete-held, trip-law, return-law, return-even}
+use Rattle.laws.proofs.FirstCause.{step-number}
 
 -- ---- one call
 
@@ -160,10 +162,23 @@ module _ (e : Equipment) (st : Settings) where
     unfolding reportOf historyReport
     statuses-now cs c n = ap (λ (r : Run). r .report .status) (run-next cs c n)
 
+    answer-is : (h : History) (c : Call) → LendsUnder st c → callAccepted c ≡ true
+        → stepOf e (recordOf e st h) (c .settings) (c .slice) .answer ≡ Answer.Reported (reportOf (historyReport e st (c .slice ∷ h)))
+    answer-is h c l p =
+        let q = both (settingsAccepted (c .settings)) (sampleAccepted (c .slice)) p in
+        ⊎-elim
+        (λ same. ap (λ (t : Stepped). t .answer) (accepted-step e (recordOf e st h) (c .settings) (c .slice) (q .0) (q .1))
+        ∙ ap (λ (s : Settings). Answer.Reported (reportOf (shown e s (next e s (c .slice) (recordOf e st h))))) same
+        ∙ ap (λ (b : Board). Answer.Reported (reportOf (shown e st b))) (next-is e st h (c .slice))
+        ∙ ap (λ (i : Items). Answer.Reported (reportOf i)) (shown-is e st (c .slice ∷ h)))
+        (λ bad. absurd (true≢false (sym (q .0) ∙ bad))) l
+
     claims-hold : Sound e → TripAndReturn e (ruledBy e) st
     claims-hold sound =
         record {
           shows = λ cs u. ap (λ (r : Run). r .report) (run-is cs u);
+          answers = λ cs c n. ap (λ (r : Run). stepOf e (r .board) (c .settings) (c .slice) .answer) (run-is cs (n .under)) ∙ answer-is (heard cs) c (n .lends) (n .accepted);
+          refuses = λ cs c u. step-number e (runOf (ruledBy e) cs .board) (c .settings) (c .slice);
           keeps = λ cs u. ap (λ (r : Run). r .board) (run-is cs u);
           trips = λ cs c n p.
               let h = heard cs in
@@ -173,10 +188,18 @@ module _ (e : Equipment) (st : Settings) where
               let h = heard cs in
               let l = return-law e st h (c .slice) (tripped-of h (sym (statuses-before cs (n .under)) ∙ p)) in
               ((λ q. l .0 (sym (service-of (c .slice ∷ h)) ∙ ap inService (sym (statuses-now cs c n)) ∙ q)), (λ q. ap inService (statuses-now cs c n) ∙ service-of (c .slice ∷ h) ∙ l .1 q));
-          returns-even = λ cs c n p q.
+          returns-continuous = λ cs c n p q.
               let h = heard cs in
               return-even e st sound ok h (c .slice) (tripped-of h (sym (statuses-before cs (n .under)) ∙ p)) (sym (service-of (c .slice ∷ h)) ∙ ap inService (sym (statuses-now cs c n)) ∙ q);
         }
+
+-- the counter rule, for an arbitrary rule
+pub counter-rule : (r : Rule) → CounterRule r
+counter-rule r =
+    record {
+      full-held = λ h. ((λ p. complete-held h r .0 (sym (full-is h r) ∙ p)), (λ a. full-is h r ∙ complete-held h r .1 a));
+      one-more = λ x h. counted-is x h r;
+    }
 
 pub demand2 : (e : Equipment) → Sound e → Demand2 e (ruledBy e)
 demand2 e sound st ok = claims-hold e st ok sound

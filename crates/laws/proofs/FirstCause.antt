@@ -7,6 +7,7 @@ use Prim.Native.Nat.{ℕ, suc, _≤_, _<_}
 use native.Mathlib.Omega.{arith}
 use lib.Dec.{leb, ltb, eqb}
 use lib.ListN.{length, drop}
+use lib.Seq.{drop-at}
 use borrow.Author.Tests.{leb-true, leb-false, lt-ltb, le-ltb}
 use Rattle.rules.specs.Tests.{all, within}
 use Rattle.rules.specs.Sensing.{lastCode, voltage, sensed}
@@ -22,7 +23,8 @@ use Rattle.rules.specs.declared.Sensed.{Sensed}
 use Rattle.rules.specs.declared.Saved.{Saved}
 use Rattle.rules.specs.declared.SettingsCheck.{SettingsCheck}
 use Rattle.rules.specs.declared.SampleCheck.{SampleCheck}
-use Rattle.claims.specs.FirstCause.{Cause, cause, first, lineCauses, settingsCauses, sampleCauses, RefusesRightly}
+use Rattle.claims.specs.FirstCause.{Cause, cause, first, lineCauses, settingsCauses, sampleCauses, causeLine, lineOf, RefusesRightly}
+use Rattle.laws.proofs.Images.{image-length}
 
 -- a number above a bound
 above : (n top : ℕ) → not (leb n top) ≡ ltb top n
@@ -78,6 +80,25 @@ settings-then : (st : Settings) (ds : List Cause) → thenNumber (settingsCheck 
 unfolding settingsCheck
 settings-then st ds = lines-number 1 rows (linesOf st) ds
 
+-- ---- the line of the first cause
+
+line-line : (a b : Bool) (n : ℕ) (next : SettingsCheck) (m : ℕ) → lineOf next ≡ m
+    → lineOf (cond a (cond b next (SettingsCheck.Refused Rise n)) (SettingsCheck.Refused Range n)) ≡ cond (not a || not b) n m
+line-line true true n next m e = e
+line-line true false n next m e = refl
+line-line false b n next m e = refl
+
+lines-line : (n : ℕ) (rs : List Row) (ls : List (List Pair)) → lineOf (checkFrom n rs ls) ≡ causeLine n (lineCauses rs ls)
+unfolding checkFrom
+lines-line n [] ls = refl
+lines-line n (r ∷ rs) [] = refl
+lines-line n (r ∷ rs) (ps ∷ ls) =
+    line-line (all (map (inRow r) ps)) (rising ps) n (checkFrom (suc n) rs ls) (causeLine (suc n) (lineCauses rs ls)) (lines-line (suc n) rs ls)
+
+settings-line : (st : Settings) → lineOf (settingsCheck st) ≡ causeLine 1 (settingsCauses st)
+unfolding settingsCheck
+settings-line st = lines-line 1 rows (linesOf st)
+
 alone : (k : SettingsCheck) → settingsNumber k ≡ thenNumber k 0
 alone SettingsCheck.Accepted = refl
 alone (SettingsCheck.Refused c line) = refl
@@ -122,7 +143,7 @@ module _ (e : Equipment) (b : Board) (st : Settings) (x : Slice) where
   settings-answer SettingsCheck.Accepted = sample-answer (sampleCheck x) ∙ sample-number x
   settings-answer (SettingsCheck.Refused c line) = refl
 
-  step-number : answerNumber (stepOf e b st x .answer) ≡ first (settingsCauses st ++ sampleCauses x)
+  pub step-number : answerNumber (stepOf e b st x .answer) ≡ first (settingsCauses st ++ sampleCauses x)
   unfolding stepOf
   step-number = settings-answer (settingsCheck st) ∙ settings-then st (sampleCauses x)
 
@@ -164,13 +185,23 @@ save-kept b buffer h = by (leb imageLength (length buffer)) h
     by true k = absurd (omega arith)
     by false k = refl
 
+save-untouched : (b : Board) (buffer : List ℕ) → length (b .counters) ≡ 9 → drop imageLength (savedInto b buffer) ≡ drop imageLength buffer
+unfolding savedInto
+save-untouched b buffer nine = by (leb imageLength (length buffer))
+  where
+    by : (t : Bool) → drop imageLength (cond t (image b ++ drop imageLength buffer) buffer) ≡ drop imageLength buffer
+    by true = drop-at (image b) (drop imageLength buffer) imageLength (image-length b nine)
+    by false = refl
+
 pub refuses-rightly : (e : Equipment) → RefusesRightly e
 refuses-rightly e =
     record {
       check = settings-number;
+      check-line = settings-line;
       sense = sense-number;
       step = step-number e;
       step-keeps = step-kept e;
       save = save-number;
       save-keeps = save-kept;
+      save-rest = save-untouched;
     }

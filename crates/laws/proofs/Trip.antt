@@ -54,8 +54,8 @@ unfolding streak
 held-streak t zero h a = zero-le
 held-streak t (suc n) [] a = absurd (not-suc-le-zero (a .enough))
 held-streak t (suc n) (x ∷ h) a =
-    rw (a .each 0 (omega arith))
-    (suc-le-suc (held-streak t n h (record { enough = le-of-suc-le-suc (a .enough); each = λ k l. a .each (suc k) (suc-le-suc l) })))
+    rw (a .throughout 0 (omega arith))
+    (suc-le-suc (held-streak t n h (record { enough = le-of-suc-le-suc (a .enough); throughout = λ k l. a .throughout (suc k) (suc-le-suc l) })))
 
 -- the counter rule, for an arbitrary rule: it is complete exactly when it held at each of the last samples of its whole time
 pub complete-held : (h : History) (r : Rule) → (complete h r ≡ true) ↔ Held (r .counts) (r .top) h
@@ -64,7 +64,7 @@ complete-held h r = (there, λ a. le-leb (r .top) (streak (r .counts) h) (held-s
     there : complete h r ≡ true → Held (r .counts) (r .top) h
     there p =
         let l : r .top ≤ streak (r .counts) h = leb-true (r .top) (streak (r .counts) h) p in
-        record { enough = le-trans l (streak-length (r .counts) h); each = λ k m. streak-each (r .counts) h k (lt-of-lt-of-le m l) }
+        record { enough = le-trans l (streak-length (r .counts) h); throughout = λ k m. streak-each (r .counts) h k (lt-of-lt-of-le m l) }
 
 -- ---- some limit's bit
 
@@ -161,10 +161,10 @@ module _ (e : Equipment) (st : Settings) where
       let b = within-true (at-all _ p 2) in
       let c = within-true (at-all _ p 3) in
       rw (
-        sound .even (lowest e x) (omega (arith, k .volts .first-low, k .volts .second-high)) (omega (arith, k .volts .first-low, k .volts .second-high)),
-        sound .even (highest e x) (omega (arith, k .volts .first-low, k .volts .second-high)) (omega (arith, k .volts .first-low, k .volts .second-high)),
+        sound .continuous (lowest e x) (omega (arith, k .volts .first-low, k .volts .second-high)) (omega (arith, k .volts .first-low, k .volts .second-high)),
+        sound .continuous (highest e x) (omega (arith, k .volts .first-low, k .volts .second-high)) (omega (arith, k .volts .first-low, k .volts .second-high)),
         true-within 58800 61200 (frequency x) (omega (arith, k .hertz .first-low)) (omega (arith, k .hertz .second-high)),
       )
 
   pub return-even : Sound e → settingsAccepted st ≡ true → (h : History) (x : Slice) → serving e st h ≡ false → serving e st (x ∷ h) ≡ true → regionOf e x ≡ Continuous
-  return-even sound ok h x p q = in-range-even sound ok x (return-law h x p .0 q .each 0 (omega arith))
+  return-even sound ok h x p q = in-range-even sound ok x (return-law h x p .0 q .throughout 0 (omega arith))

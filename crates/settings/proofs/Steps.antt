@@ -1,7 +1,7 @@
 -- One more turn of each loop, and its end: the range check and the rise along a line, and the lines in order.
 -- Assumes nothing.
 use mathlib.Core.Path.{_≡_, refl}
-use mathlib.Core.Bool.{Bool, true, _&&_}
+use mathlib.Core.Bool.{Bool, true, false, cond, _&&_}
 use mathlib.Core.List.{List, [], _∷_, map}
 use Prim.Native.Nat.{ℕ, suc, _+_, _<_, _≤_}
 use native.Mathlib.Numerals.{add-one}
@@ -11,11 +11,13 @@ use lib.ListN.{length, getD, drop, length-drop, drop-of-length-le}
 use lib.Seq.{drop-cons}
 use lib.Signed.{ltZ}
 use Rattle.rules.specs.Tests.{all}
-use Rattle.rules.specs.Settings.{Pair, pair, row, rows, rising, lineCheck, checkFrom, linesOf}
+use Rattle.rules.specs.Settings.{Pair, pair, Row, row, rows, inRow, rising, lineCheck, checkFrom, linesOf}
 use Rattle.rules.specs.declared.Settings.{Settings}
+use Rattle.rules.specs.declared.Refusal.{Refusal}
+use Rattle.rules.specs.declared.Refusal.the-variants.{Range, Rise}
 use Rattle.rules.specs.declared.SettingsCheck.{SettingsCheck}
 use Rattle.settings.specs.Rows.{rowAt}
-use Rattle.settings.specs.Lines.{lineAt}
+use Rattle.settings.specs.Lines.{lineAt, lineFound}
 
 abbrev at : List Pair → ℕ → Pair
 at l k = getD l k (pair (pos 0) (pos 0))
@@ -70,3 +72,26 @@ line-more s i h =
 pub line-end : (s : Settings) (i : ℕ) → 13 ≤ i → from s i ≡ SettingsCheck.Accepted
 unfolding checkFrom
 line-end s i h = rw (drop-of-length-le rows {i = i} (omega (arith, rows-long)))
+
+-- ---- a line's own check, and what it says of the lines after it
+
+module _ {A : Type 0} (r : Row) (ps : List Pair) (i : ℕ) (next : A) (refuse : Refusal → A) where
+  -- a line in which nothing is found goes on to the next
+  pub line-passes : lineFound r ps i ≡ SettingsCheck.Accepted → lineCheck r ps next refuse ≡ next
+  line-passes e = by-tests (all (map (inRow r) ps)) (rising ps) e
+    where
+      by-tests : (a b : Bool) → cond a (cond b SettingsCheck.Accepted (SettingsCheck.Refused Rise (i + 1))) (SettingsCheck.Refused Range (i + 1)) ≡ SettingsCheck.Accepted
+          → cond a (cond b next (refuse Rise)) (refuse Range) ≡ next
+      by-tests true true e = refl
+      by-tests true false e = let z : _≡_ {A = ℕ} 0 1 = cc in absurd (omega arith)
+      by-tests false b e = let z : _≡_ {A = ℕ} 0 1 = cc in absurd (omega arith)
+
+  -- a line in which a cause is found refuses
+  pub line-refuses : (cause : Refusal) (n : ℕ) → lineFound r ps i ≡ SettingsCheck.Refused cause n → (lineCheck r ps next refuse ≡ refuse cause) × (n ≡ i + 1)
+  line-refuses cause n e = by-tests (all (map (inRow r) ps)) (rising ps) e
+    where
+      by-tests : (a b : Bool) → cond a (cond b SettingsCheck.Accepted (SettingsCheck.Refused Rise (i + 1))) (SettingsCheck.Refused Range (i + 1)) ≡ SettingsCheck.Refused cause n
+          → (cond a (cond b next (refuse Rise)) (refuse Range) ≡ refuse cause) × (n ≡ i + 1)
+      by-tests true true e = let z : _≡_ {A = ℕ} 0 1 = cc in absurd (omega arith)
+      by-tests true false e = (cc, cc)
+      by-tests false b e = (cc, cc)

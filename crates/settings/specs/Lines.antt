@@ -2,13 +2,14 @@
 -- Assumes nothing.
 use mathlib.Core.Bool.{cond}
 use mathlib.Core.List.{List, []}
-use Prim.Native.Nat.{ℕ}
+use Prim.Native.Nat.{ℕ, _+_}
 use lib.Dec.{eqb}
 use lib.IntN.{pos}
 use lib.ListN.{getD}
 use Rattle.rules.specs.Settings as rules
-use Rattle.rules.specs.Settings.{pair, linesOf}
+use Rattle.rules.specs.Settings.{pair, linesOf, lineCheck}
 use Rattle.rules.specs.declared.Settings.{Settings}
+use Rattle.rules.specs.declared.SettingsCheck.{SettingsCheck}
 use Rattle.settings.specs.declared.lines.Pair.{Pair}
 
 abbrev pub pairOf : Pair → rules.Pair
@@ -23,3 +24,7 @@ pairAt s i k = getD (lineAt s i) k (pair (pos 0) (pos 0))
 -- how many pairs line i has
 abbrev pub pairsIn : ℕ → ℕ
 pairsIn i = cond (eqb i 11) 4 (cond (eqb i 12) 2 1)
+
+-- what checking line i alone finds
+abbrev pub lineFound : rules.Row → List rules.Pair → ℕ → SettingsCheck
+lineFound r ps i = lineCheck r ps SettingsCheck.Accepted (λ cause. SettingsCheck.Refused cause (i + 1))

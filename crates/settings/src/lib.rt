@@ -4,8 +4,8 @@ ghost use mathlib.Core.List.{map};
 ghost use Prim.Native.Nat.{_<_};
 ghost use Rattle.rules.specs.Tests.{all};
 ghost use Rattle.rules.specs.Settings.{inRow, rising, settingsCheck};
-ghost use Rattle.settings.specs.Rows.{rowOf};
-ghost use Rattle.settings.specs.Lines.{lineAt};
+ghost use Rattle.settings.specs.Rows.{rowOf, rowAt};
+ghost use Rattle.settings.specs.Lines.{lineAt, lineFound};
 
 mod lines;
 mod ranges;
@@ -54,7 +54,34 @@ fn rises(s: Settings, line: usize) -> bool
     true
 }
 
-// Document 01, "Turned-away input", 2 and 3: the first found in sheet order, within a line 2 before 3.
+// Document 01, "Turned-away input", 2 and 3 of one line, 2 before 3.
+fn line_check(row: Row, s: Settings, line: usize) -> SettingsCheck
+    requires { ⌜ line < 13 ⌝ }
+    ensures { λ r. ⌜ r ≡ lineFound (rowOf row) (lineAt s line) line ⌝ }
+{
+    let range = in_range(row, s, line);
+    let rise = rises(s, line);
+    let number = (line + 1) as u8;
+    if !range {
+        return SettingsCheck::Refused(Refusal::Range, number);
+    }
+    if !rise {
+        return SettingsCheck::Refused(Refusal::Rise, number);
+    }
+    SettingsCheck::Accepted
+}
+
+// The same for a line of settings, counted from 0.
+pub fn check_line(s: Settings, line: usize) -> SettingsCheck
+    requires { ⌜ line < 13 ⌝ }
+    ensures { λ r. ⌜ r ≡ lineFound (rowAt line) (lineAt s line) line ⌝ }
+{
+    let rows = table();
+    let row = rows[line];
+    line_check(row, s, line)
+}
+
+// Document 01, "Turned-away input", 2 and 3: the first found in sheet order.
 pub fn check(s: Settings) -> SettingsCheck
     ensures { λ r. ⌜ r ≡ settingsCheck s ⌝ }
 {
@@ -62,16 +89,14 @@ pub fn check(s: Settings) -> SettingsCheck
     let mut line = 0;
     while line < 13 {
         let row = rows[line];
-        let range = in_range(row, s, line);
-        let rise = rises(s, line);
-        let number = (line + 1) as u8;
-        if !range {
-            return SettingsCheck::Refused(Refusal::Range, number);
-        }
-        if !rise {
-            return SettingsCheck::Refused(Refusal::Rise, number);
-        }
+        let found = line_check(row, s, line);
         line += 1;
+        match found {
+            SettingsCheck::Accepted => {}
+            SettingsCheck::Refused(_, _) => {
+                return found;
+            }
+        }
     }
     SettingsCheck::Accepted
 }

@@ -1,13 +1,15 @@
 -- `settings::check` meets its contract: what the lines from `line` on find is what the sheet's lines find.
 -- Assumes nothing.
-use mathlib.Core.Path.{_≡_, refl, _∙_}
-use Prim.Native.Nat.{_-_, _≤_}
+use mathlib.Core.Path.{_≡_, refl, sym, ap, _∙_}
+use Prim.Native.Nat.{_+_, _-_, _≤_}
 use native.Mathlib.Omega.{arith}
-use borrow.Author.Needs.{needs}
-use borrow.Author.Tests.{not-true, not-false}
 use Rattle.rules.specs.Settings.{settingsCheck}
+use Rattle.rules.specs.declared.SettingsCheck.{SettingsCheck}
+use Rattle.settings.specs.Rows.{rowAt}
+use Rattle.settings.specs.Lines.{lineAt, lineFound}
 use Rattle.settings.proofs.Rows.{row-here}
-use Rattle.settings.proofs.Steps.{from, line-more, line-end}
+use Rattle.settings.proofs.Steps.{from, line-more, line-end, line-passes, line-refuses}
+use borrow.Author.Needs.{needs}
 use Rattle.settings.proofs.check.Statement.{statement}
 use Rattle.settings.proofs.check.Tie as tie
 
@@ -30,50 +32,45 @@ mul-row c = search needs
 array-copy-out-row : tie.Need-array-copy-out-row Inv-loop μ-loop
 array-copy-out-row c = search needs
 
-in-range-requires : tie.Need-in-range-requires Inv-loop μ-loop
-in-range-requires c κs = search needs
-
-rises-requires : tie.Need-rises-requires Inv-loop μ-loop
-rises-requires c κs = search needs
-
-add-number : tie.Need-add-number Inv-loop μ-loop
-add-number c = search needs
-
-cast-number : tie.Need-cast-number Inv-loop μ-loop
-cast-number c = search needs
-
-returns : tie.Need-returns Inv-loop μ-loop
-returns c =
-    let found = c .before in
-    let at = found .before .before .before .before in
-    let more = line-more (at .before .before .args .s) (at .loop .line) (omega arith) in
-    let row = row-here (at .before .table .result) (at .before .table .ensures) (at .loop .line) in
-    rw (at .loop .inv .1, more, ← row, ← found .before .in-range .ensures, not-true (found .before .in-range .result) (c .if1 .taken))
-
-returns-2 : tie.Need-returns-2 Inv-loop μ-loop
-returns-2 c =
-    let found = c .before .before in
-    let at = found .before .before .before .before in
-    let more = line-more (at .before .before .args .s) (at .loop .line) (omega arith) in
-    let row = row-here (at .before .table .result) (at .before .table .ensures) (at .loop .line) in
-    rw (at .loop .inv .1, more, ← row, ← found .before .in-range .ensures, not-false (found .before .in-range .result) (c .before .if1 .left), ← found .rises .ensures, not-true (found .rises .result) (c .if2 .taken))
+line-check-requires : tie.Need-line-check-requires Inv-loop μ-loop
+line-check-requires c κs = search needs
 
 add-line : tie.Need-add-line Inv-loop μ-loop
 add-line c = search needs
+
+enum-told : tie.Need-enum-told Inv-loop μ-loop
+enum-told c = search needs
 
 loop-less : tie.Need-loop-less Inv-loop μ-loop
 loop-less c = search needs
 
 loop-again : tie.Need-loop-again Inv-loop μ-loop
 loop-again c =
-    let found = c .before .before in
-    let at = found .before .before .before .before in
-    let more = line-more (at .before .before .args .s) (at .loop .line) (omega arith) in
-    let row = row-here (at .before .table .result) (at .before .table .ensures) (at .loop .line) in
-    (omega arith, at .loop .inv .1 ∙ rw (more, ← row, ← found .before .in-range .ensures, not-false (found .before .in-range .result) (c .before .if1 .left), ← found .rises .ensures, not-false (found .rises .result) (c .if2 .left)))
+    let at = c .before .before .before .before .before in
+    let s = at .before .before .args .s in
+    let i = at .loop .line in
+    let row = row-here (at .before .table .result) (at .before .table .ensures) i in
+    let found : lineFound (rowAt i) (lineAt s i) i ≡ SettingsCheck.Accepted = rw (← row) (sym (c .before .before .line-check .ensures) ∙ c .enum-told .given .1) in
+    (omega arith, at .loop .inv .1 ∙ line-more s i (omega arith) ∙ line-passes (rowAt i) (lineAt s i) i (from s (i + 1)) (λ cause. SettingsCheck.Refused cause (i + 1)) found)
 
-returns-3 : tie.Need-returns-3 Inv-loop μ-loop
-returns-3 c = rw (c .before .loop .inv .1, line-end (c .before .before .before .args .s) (c .before .loop .line) (omega arith))
+enum-told-2 : tie.Need-enum-told-2 Inv-loop μ-loop
+enum-told-2 c = search needs
+
+returns : tie.Need-returns Inv-loop μ-loop
+returns c =
+    let at = c .before .before .before .before .before in
+    let s = at .before .before .args .s in
+    let i = at .loop .line in
+    let row = row-here (at .before .table .result) (at .before .table .ensures) i in
+    let told = c .enum-told2 .given in
+    let cause = told .0 .0 in
+    let n = told .0 .1 .0 in
+    let found : lineFound (rowAt i) (lineAt s i) i ≡ SettingsCheck.Refused cause n = rw (← row) (sym (c .before .before .line-check .ensures) ∙ told .1) in
+    let refused = line-refuses (rowAt i) (lineAt s i) i (from s (i + 1)) (λ why. SettingsCheck.Refused why (i + 1)) cause n found in
+    told .1 ∙ ap (SettingsCheck.Refused cause) (refused .1) ∙ sym (at .loop .inv .1 ∙ line-more s i (omega arith) ∙ refused .0)
+
+returns-2 : tie.Need-returns-2 Inv-loop μ-loop
+returns-2 c = rw (c .before .loop .inv .1, line-end (c .before .before .before .args .s) (c .before .loop .line) (omega arith))
 
 pub check-spec : {M : Type 1} → statement M
 check-spec =
@@ -85,13 +82,11 @@ check-spec =
     loop-holds
     mul-row
     array-copy-out-row
-    in-range-requires
-    rises-requires
-    add-number
-    cast-number
-    returns
-    returns-2
+    line-check-requires
     add-line
+    enum-told
     loop-less
     loop-again
-    returns-3)
+    enum-told-2
+    returns
+    returns-2)

@@ -1,0 +1,1813 @@
+//! Ride-through, trip and return on the three-phase interface board.
+//!
+//! The comparison program: an implementation of document 01 written again from its text alone, by a hand that had seen neither
+//! the proved code nor its definitions nor its design, to be held against it. No code is shared.
+//! Standard library only, one file:
+//!
+//!     rustc -O --edition 2021 board.rs            the program `board`
+//!     rustc -O --edition 2021 --test board.rs     its tests
+//!
+//! Voltage is in ten-thousandths of nominal, frequency in millihertz, power in
+//! ten-thousandths of rating, time in steps of 10 ms.
+//!
+//! Where document 01 leaves something open, the choice made is marked "Decision:".
+
+#![forbid(unsafe_code)]
+
+use std::env;
+use std::fs::File;
+use std::io::{self, BufRead, BufReader, BufWriter, Read, Write};
+use std::os::fd::AsFd;
+use std::process::ExitCode;
+
+// ---------------------------------------------------------------------------
+// Records
+// ---------------------------------------------------------------------------
+
+/// A trip limit and its clearing time.
+#[derive(Clone, Copy, Debug, PartialEq, Eq)]
+pub struct Trip {
+    pub limit: u32,
+    pub time: u32,
+}
+
+/// A range with both ends included.
+#[derive(Clone, Copy, Debug, PartialEq, Eq)]
+pub struct Range {
+    pub low: u32,
+    pub high: u32,
+}
+
+/// A point of a curve.
+#[derive(Clone, Copy, Debug, PartialEq, Eq)]
+pub struct Point {
+    pub voltage: u32,
+    pub power: i32,
+}
+
+/// The numbers of a sheet, in fields wide enough for anything a caller could lend.
+#[derive(Clone, Copy, Debug, PartialEq, Eq)]
+pub struct Settings {
+    /// uv1, uv2, ov1, ov2, uf1, uf2, of1, of2.
+    pub trips: [Trip; 8],
+    pub volts: Range,
+    pub hertz: Range,
+    pub wait: u32,
+    pub ramp: u32,
+    pub var: [Point; 4],
+    pub watt: [Point; 2],
+}
+
+/// The board record that the host keeps and lends to each step.
+#[derive(Clone, Copy, Debug, PartialEq, Eq)]
+pub struct Board {
+    pub status: u8,
+    /// Eight limit counters in sheet order, then the return counter.
+    pub counters: [u32; 9],
+    pub ramp: u32,
+    pub watts: u16,
+    pub vars: i16,
+}
+
+/// What one accepted sample gives.
+#[derive(Clone, Copy, Debug, PartialEq, Eq)]
+pub struct Report {
+    pub status: u8,
+    /// Eight limit bits in sheet order, then "ready".
+    pub bits: [bool; 9],
+    pub share: u16,
+    pub watts: u16,
+    pub vars: i16,
+}
+
+/// What reading a sheet gives.
+#[derive(Clone, Copy, Debug, PartialEq, Eq)]
+pub enum SheetResult<'a> {
+    /// The settings, and the index in the text of the first byte past the thirteenth line.
+    Accepted { settings: Settings, rest_begins: usize },
+    /// The refusal's number, the sheet line from 1, and that line without its line feed,
+    /// as a part of the caller's own text.
+    Refused { number: u8, line_number: usize, line: &'a [u8] },
+}
+
+pub const TRIPPED: u8 = 0;
+pub const ENTERING: u8 = 1;
+pub const CONTINUOUS: u8 = 2;
+pub const MANDATORY: u8 = 3;
+pub const MOMENTARY: u8 = 4;
+pub const CEASE: u8 = 5;
+
+/// The status words, by status.
+pub const STATUS_WORDS: [&str; 6] =
+    ["tripped", "entering", "continuous", "mandatory", "momentary", "cease"];
+
+pub const SHEET_LINE: u8 = 1;
+pub const OUTSIDE_ROW: u8 = 2;
+pub const CURVE_NOT_RISING: u8 = 3;
+pub const CODE: u8 = 4;
+pub const FREQUENCY: u8 = 5;
+pub const PERMISSION: u8 = 6;
+pub const POWER: u8 = 7;
+pub const SAMPLE_FORM: u8 = 8;
+pub const IMAGE_BUFFER: u8 = 9;
+
+// ---------------------------------------------------------------------------
+// The sheet
+// ---------------------------------------------------------------------------
+
+/// Two numbers that stand beside each other in the sheet.
+type Pair = (i64, i64);
+
+/// One line of the sheet: its text before the first number, how many pairs it holds,
+/// and the lowest and highest allowed first and second number of each pair.
+struct Row {
+    head: &'static str,
+    pairs: usize,
+    first: (i64, i64),
+    second: (i64, i64),
+}
+
+const fn row(head: &'static str, pairs: usize, first: (i64, i64), second: (i64, i64)) -> Row {
+    Row { head, pairs, first, second }
+}
+
+const ROWS: [Row; 13] = [
+    row("(trip (uv1 ", 1, (0, 8800), (2100, 5000)),
+    row("(trip (uv2 ", 1, (0, 5000), (200, 2100)),
+    row("(trip (ov1 ", 1, (11000, 12000), (100, 1300)),
+    row("(trip (ov2 ", 1, (12000, 12000), (16, 16)),
+    row("(trip (uf1 ", 1, (50000, 59000), (18000, 100000)),
+    row("(trip (uf2 ", 1, (50000, 57000), (16, 100000)),
+    row("(trip (of1 ", 1, (61000, 66000), (18000, 100000)),
+    row("(trip (of2 ", 1, (61800, 66000), (16, 100000)),
+    row("(enter (volts ", 1, (8800, 9500), (10500, 10600)),
+    row("(enter (hertz ", 1, (59000, 59900), (60100, 61000)),
+    row("(enter (wait ", 1, (0, 60000), (100, 100000)),
+    row("(var (", 4, (7000, 13000), (-10000, 10000)),
+    row("(watt (", 2, (10000, 12000), (0, 10000)),
+];
+
+/// All pairs of a sheet: eight trips, volts, hertz, wait, four var and two watt points.
+const PAIRS: usize = 17;
+
+impl Settings {
+    /// The numbers in sheet order.
+    fn pairs(&self) -> [Pair; PAIRS] {
+        let trip = |trip: Trip| (i64::from(trip.limit), i64::from(trip.time));
+        let range = |range: Range| (i64::from(range.low), i64::from(range.high));
+        let point = |point: Point| (i64::from(point.voltage), i64::from(point.power));
+        let mut pairs = [(0, 0); PAIRS];
+        for i in 0..8 {
+            pairs[i] = trip(self.trips[i]);
+        }
+        pairs[8] = range(self.volts);
+        pairs[9] = range(self.hertz);
+        pairs[10] = (i64::from(self.wait), i64::from(self.ramp));
+        for i in 0..4 {
+            pairs[11 + i] = point(self.var[i]);
+        }
+        for i in 0..2 {
+            pairs[15 + i] = point(self.watt[i]);
+        }
+        pairs
+    }
+
+    /// The settings of numbers in sheet order. The numbers must fit the fields.
+    fn from_pairs(pairs: &[Pair; PAIRS]) -> Settings {
+        let trip = |(limit, time): Pair| Trip { limit: limit as u32, time: time as u32 };
+        let range = |(low, high): Pair| Range { low: low as u32, high: high as u32 };
+        let point =
+            |(voltage, power): Pair| Point { voltage: voltage as u32, power: power as i32 };
+        Settings {
+            trips: std::array::from_fn(|i| trip(pairs[i])),
+            volts: range(pairs[8]),
+            hertz: range(pairs[9]),
+            wait: pairs[10].0 as u32,
+            ramp: pairs[10].1 as u32,
+            var: std::array::from_fn(|i| point(pairs[11 + i])),
+            watt: std::array::from_fn(|i| point(pairs[15 + i])),
+        }
+    }
+}
+
+/// Refusals 2 and 3 for the numbers of one line.
+fn check_line(row: &Row, pairs: &[Pair]) -> Result<(), u8> {
+    let within = |number: i64, (lowest, highest): (i64, i64)| lowest <= number && number <= highest;
+    if !pairs.iter().all(|&(first, second)| within(first, row.first) && within(second, row.second))
+    {
+        return Err(OUTSIDE_ROW);
+    }
+    // Only var and watt hold more than one pair, so only they can fail to rise.
+    if !pairs.windows(2).all(|neighbours| neighbours[0].0 < neighbours[1].0) {
+        return Err(CURVE_NOT_RISING);
+    }
+    Ok(())
+}
+
+/// Refusals 2 and 3 for lent settings, in sheet order.
+/// Decision: "in sheet order" is read as for the sheet itself, line by line and each line
+/// for 2, then 3. A var curve that does not rise (3) is thus found before a watt number
+/// outside its row (2).
+fn check_settings(settings: &Settings) -> Result<(), u8> {
+    let pairs = settings.pairs();
+    let mut begin = 0;
+    for row in &ROWS {
+        check_line(row, &pairs[begin..begin + row.pairs])?;
+        begin += row.pairs;
+    }
+    Ok(())
+}
+
+/// Reads one line of text from its left end.
+struct Reader<'a> {
+    rest: &'a [u8],
+}
+
+impl Reader<'_> {
+    /// Passes over exactly this text.
+    fn text(&mut self, text: &str) -> Option<()> {
+        self.rest = self.rest.strip_prefix(text.as_bytes())?;
+        Some(())
+    }
+
+    /// A number of 1 to 6 digits without a leading zero; where `minus` says so, a minus
+    /// may stand before it if it is not zero.
+    /// Decision: 0 itself, written with one digit, has no leading zero.
+    /// Decision: the minus is not a digit, so -100000 is of the form (and outside its row).
+    fn number(&mut self, minus: bool) -> Option<i64> {
+        let negative = minus && self.rest.first() == Some(&b'-');
+        if negative {
+            self.rest = &self.rest[1..];
+        }
+        let length = self.rest.iter().take_while(|byte| byte.is_ascii_digit()).count();
+        let (digits, rest) = self.rest.split_at(length);
+        if length < 1 || length > 6 || (length > 1 && digits[0] == b'0') {
+            return None;
+        }
+        self.rest = rest;
+        let value = digits.iter().fold(0, |value, digit| value * 10 + i64::from(digit - b'0'));
+        match (negative, value) {
+            (true, 0) => None,
+            (true, _) => Some(-value),
+            (false, _) => Some(value),
+        }
+    }
+
+    /// Nothing is left.
+    fn end(&self) -> Option<()> {
+        self.rest.is_empty().then_some(())
+    }
+}
+
+/// Reads the numbers of one sheet line into `pairs`; none if the line is not of its form.
+fn read_sheet_line(row: &Row, line: &[u8], pairs: &mut [Pair]) -> Option<()> {
+    let minus = row.second.0 < 0; // the var row alone
+    let mut reader = Reader { rest: line };
+    reader.text(row.head)?;
+    for (i, pair) in pairs.iter_mut().enumerate() {
+        if i > 0 {
+            reader.text(") (")?;
+        }
+        pair.0 = reader.number(false)?;
+        reader.text(" ")?;
+        pair.1 = reader.number(minus)?;
+    }
+    reader.text("))")?;
+    reader.end()
+}
+
+/// Reads a sheet from the beginning of `text`.
+///
+/// Decision: an unended line is handed back as all that is left of the text. A missing
+/// line is the line after the last one that stands there, so its number is one more.
+pub fn read_sheet(text: &[u8]) -> SheetResult<'_> {
+    let mut pairs = [(0, 0); PAIRS];
+    let mut begin = 0; // of the line's pairs
+    let mut rest = text;
+    for (i, row) in ROWS.iter().enumerate() {
+        let refused = |number, line| SheetResult::Refused { number, line_number: i + 1, line };
+        let Some(length) = rest.iter().position(|&byte| byte == b'\n') else {
+            return refused(SHEET_LINE, rest);
+        };
+        let line = &rest[..length];
+        let line_pairs = &mut pairs[begin..begin + row.pairs];
+        if read_sheet_line(row, line, line_pairs).is_none() {
+            return refused(SHEET_LINE, line);
+        }
+        if let Err(number) = check_line(row, line_pairs) {
+            return refused(number, line);
+        }
+        begin += row.pairs;
+        rest = &rest[length + 1..];
+    }
+    let settings = Settings::from_pairs(&pairs);
+    SheetResult::Accepted { settings, rest_begins: text.len() - rest.len() }
+}
+
+// ---------------------------------------------------------------------------
+// Sensing and curves
+// ---------------------------------------------------------------------------
+
+/// The largest whole number whose square is at most `square`, found bit by bit.
+fn square_root(square: u32) -> u32 {
+    let mut root: u32 = 0;
+    for bit in (0..16).rev() {
+        let larger = root + (1 << bit);
+        if larger * larger <= square {
+            root = larger;
+        }
+    }
+    root
+}
+
+/// The voltage of a mean-square code, 0 to 4,095.
+fn voltage(code: u32) -> u32 {
+    square_root(code * 100_000)
+}
+
+/// The power of a curve at a voltage. The curve's voltages rise strictly.
+fn curve(points: &[Point], voltage: u32) -> i64 {
+    let first = points[0];
+    let last = points[points.len() - 1];
+    if voltage <= first.voltage {
+        return i64::from(first.power);
+    }
+    for neighbours in points.windows(2) {
+        let (left, right) = (neighbours[0], neighbours[1]);
+        if voltage < right.voltage {
+            let difference = i64::from(right.power) - i64::from(left.power);
+            let distance = i64::from(voltage) - i64::from(left.voltage);
+            let gap = i64::from(right.voltage) - i64::from(left.voltage);
+            return i64::from(left.power) + difference * distance / gap; // cut toward zero
+        }
+    }
+    i64::from(last.power)
+}
+
+/// The largest whole p with p² + vars² at most 100,000,000; vars are -10000 to 10000.
+fn watts_beside(vars: i64) -> i64 {
+    i64::from(square_root((100_000_000 - vars * vars) as u32))
+}
+
+// ---------------------------------------------------------------------------
+// The step
+// ---------------------------------------------------------------------------
+
+/// The bands, from best to worst.
+#[derive(Clone, Copy, Debug, PartialEq, Eq, PartialOrd, Ord)]
+enum Band {
+    Continuous,
+    Mandatory,
+    Momentary,
+    Cease,
+}
+
+fn band_of_voltage(voltage: u32) -> Band {
+    match voltage {
+        0..=4999 => Band::Momentary,
+        5000..=8799 => Band::Mandatory,
+        8800..=11000 => Band::Continuous,
+        11001..=12000 => Band::Momentary,
+        _ => Band::Cease,
+    }
+}
+
+fn band_of_frequency(frequency: u32) -> Band {
+    match frequency {
+        58800..=61200 => Band::Continuous,
+        _ => Band::Mandatory,
+    }
+}
+
+/// Refusals 8, 4, 5, 6, 7 for a lent sample.
+fn check_sample(sample: &[u32]) -> Result<[u32; 7], u8> {
+    let Ok(numbers) = <[u32; 7]>::try_from(sample) else {
+        return Err(SAMPLE_FORM);
+    };
+    let [code_a, code_b, code_c, frequency, permission, available, limit] = numbers;
+    if code_a > 4095 || code_b > 4095 || code_c > 4095 {
+        return Err(CODE);
+    }
+    if !(40000..=80000).contains(&frequency) {
+        return Err(FREQUENCY);
+    }
+    if permission > 1 {
+        return Err(PERMISSION);
+    }
+    if available > 10000 || limit > 10000 {
+        return Err(POWER);
+    }
+    Ok(numbers)
+}
+
+/// One more, up to the top, if `again`; otherwise 0. A count above its top is read as the top.
+fn count(before: u32, top: u32, again: bool) -> u32 {
+    if !again {
+        0
+    } else if before < top {
+        before + 1
+    } else {
+        top
+    }
+}
+
+/// A fresh board: tripped, with everything 0.
+pub fn fresh() -> Board {
+    Board { status: TRIPPED, counters: [0; 9], ramp: 0, watts: 0, vars: 0 }
+}
+
+/// The report of a fresh board, before any sample.
+#[allow(dead_code)] // the program reports samples only
+pub fn fresh_report() -> Report {
+    Report { status: TRIPPED, bits: [false; 9], share: 0, watts: 0, vars: 0 }
+}
+
+/// One step of the board: updates the lent record and gives the report, or gives the
+/// number of the refusal and changes nothing.
+pub fn step(board: &mut Board, settings: &Settings, sample: &[u32]) -> Result<Report, u8> {
+    check_settings(settings)?;
+    let [code_a, code_b, code_c, frequency, permission, available, limit] = check_sample(sample)?;
+
+    let phases = [voltage(code_a), voltage(code_b), voltage(code_c)];
+    let lowest = phases[0].min(phases[1]).min(phases[2]);
+    let highest = phases[0].max(phases[1]).max(phases[2]);
+    let mean = (phases[0] + phases[1] + phases[2]) / 3;
+
+    let mut counters = [0; 9];
+    let mut bits = [false; 9];
+
+    // Rule 1: the eight limits, always strictly.
+    for (i, trip) in settings.trips.iter().enumerate() {
+        let broken = match i {
+            0 | 1 => lowest < trip.limit,
+            2 | 3 => highest > trip.limit,
+            4 | 5 => frequency < trip.limit,
+            _ => frequency > trip.limit,
+        };
+        counters[i] = count(board.counters[i], trip.time, broken);
+        bits[i] = counters[i] == trip.time;
+    }
+    let any_limit_bit = bits[..8].contains(&true);
+
+    // Rule 2: the return counter. It too runs in every status.
+    let volts_within = settings.volts.low <= lowest && highest <= settings.volts.high;
+    let hertz_within = settings.hertz.low <= frequency && frequency <= settings.hertz.high;
+    let wait = settings.wait.max(1); // a wait of 0 counts as 1
+    counters[8] = count(board.counters[8], wait, permission == 1 && volts_within && hertz_within);
+    bits[8] = counters[8] == wait;
+    let ready = bits[8];
+
+    // Rule 3: the worst band.
+    let band = band_of_voltage(lowest)
+        .max(band_of_voltage(highest))
+        .max(band_of_frequency(frequency));
+
+    // Rule 4: service and ramp. An unknown status is read as tripped, a tripped board's
+    // ramp count as 0, a ramp count above the ramp length as the ramp length.
+    // The record's watts and vars are only written: no rule reads them, so how a lent
+    // record's watts above 10000 are read shows nowhere.
+    let in_service_before = (ENTERING..=CEASE).contains(&board.status);
+    let ramp_before = if in_service_before { board.ramp.min(settings.ramp) } else { 0 };
+    let in_service = if in_service_before { permission == 1 && !any_limit_bit } else { ready };
+    let ramp = if !in_service_before || !in_service {
+        0
+    } else if band == Band::Continuous {
+        count(ramp_before, settings.ramp, true)
+    } else {
+        ramp_before
+    };
+
+    // Rule 5: status.
+    let status = match band {
+        _ if !in_service => TRIPPED,
+        Band::Continuous if ramp < settings.ramp => ENTERING,
+        Band::Continuous => CONTINUOUS,
+        Band::Mandatory => MANDATORY,
+        Band::Momentary => MOMENTARY,
+        Band::Cease => CEASE,
+    };
+
+    // Rule 6: share.
+    let share = 10000 * i64::from(ramp) / i64::from(settings.ramp);
+
+    // Rules 7 and 8: vars and watts.
+    let (watts, vars) = if (ENTERING..=MANDATORY).contains(&status) {
+        let vars = curve(&settings.var, mean);
+        let watts = i64::from(available)
+            .min(i64::from(limit))
+            .min(share)
+            .min(curve(&settings.watt, mean))
+            .min(watts_beside(vars));
+        (watts, vars)
+    } else {
+        (0, 0)
+    };
+
+    // All of these are at most 10000 in size.
+    let (share, watts, vars) = (share as u16, watts as u16, vars as i16);
+    *board = Board { status, counters, ramp, watts, vars };
+    Ok(Report { status, bits, share, watts, vars })
+}
+
+// ---------------------------------------------------------------------------
+// The image
+// ---------------------------------------------------------------------------
+
+pub const IMAGE_SIZE: usize = 45;
+
+/// Saves the record's image, its fields as they are, in the first 45 bytes of the buffer.
+pub fn save(board: &Board, buffer: &mut [u8]) -> Result<(), u8> {
+    if buffer.len() < IMAGE_SIZE {
+        return Err(IMAGE_BUFFER);
+    }
+    buffer[0] = board.status;
+    for (i, counter) in board.counters.iter().enumerate() {
+        buffer[1 + 4 * i..5 + 4 * i].copy_from_slice(&counter.to_be_bytes());
+    }
+    buffer[37..41].copy_from_slice(&board.ramp.to_be_bytes());
+    buffer[41..43].copy_from_slice(&board.watts.to_be_bytes());
+    buffer[43..45].copy_from_slice(&board.vars.to_be_bytes());
+    Ok(())
+}
+
+// ---------------------------------------------------------------------------
+// The program `board`
+// ---------------------------------------------------------------------------
+
+/// The input ends at this byte at the latest.
+/// Decision: bytes are counted from 1, so this byte is the last that can belong to it. A
+/// line that the end cuts off is unended.
+const INPUT_END: u64 = 1_000_000_000_000;
+
+/// How much is read at once, at most.
+const BLOCK_SIZE: usize = 65536;
+
+/// No line of the sheet and no sample line is longer than the longest var line:
+/// `(var`, four times ` (NNNNNN -NNNNNN)`, `)`. A longer line is not of its form, so
+/// bytes beyond the first 74 of a line need not be kept.
+const LONGEST_LINE: usize = 4 + 4 * 17 + 1;
+
+/// The seven numbers of a sample line; none if it is not of its form.
+fn read_sample(line: &[u8]) -> Option<[u32; 7]> {
+    let mut reader = Reader { rest: line };
+    let mut sample = [0; 7];
+    let before = ["(at (", " ", " ", ") ", " ", " ", " "];
+    for (number, before) in sample.iter_mut().zip(before) {
+        reader.text(before)?;
+        *number = reader.number(false)? as u32; // at most 999999
+    }
+    reader.text(")")?;
+    reader.end()?;
+    Some(sample)
+}
+
+/// The nine bits as one binary number, to be written with nine digits.
+fn binary(bits: &[bool; 9]) -> u16 {
+    bits.iter().fold(0, |number, &bit| 2 * number + u16::from(bit))
+}
+
+fn report_line(report: &Report) -> String {
+    let word = STATUS_WORDS[usize::from(report.status)];
+    let bits = binary(&report.bits);
+    format!("(report {} {:09b} {} {} {})\n", word, bits, report.share, report.watts, report.vars)
+}
+
+fn refused_line(number: u8, line_number: u64) -> String {
+    format!("(refused {} {})\n", number, line_number)
+}
+
+/// Reads the next block into `block` and gives its size, 0 when the input has ended.
+/// A read error ends the input.
+/// Decision: a read that a signal interrupted has not failed, it is begun again.
+fn read_block(input: &mut impl Read, block: &mut [u8]) -> usize {
+    loop {
+        match input.read(block) {
+            Ok(size) => return size,
+            Err(error) if error.kind() == io::ErrorKind::Interrupted => continue,
+            Err(_) => return 0,
+        }
+    }
+}
+
+/// The samples of the program's input, handled block by block.
+struct Samples {
+    settings: Settings,
+    board: Board,
+    /// Line feeds passed so far, those of the sheet included.
+    lines: u64,
+    /// The beginning of a line whose end is still to come: at most its first 74 bytes.
+    begun: Vec<u8>,
+}
+
+impl Samples {
+    fn new(settings: Settings) -> Samples {
+        Samples { settings, board: fresh(), lines: ROWS.len() as u64, begun: Vec::new() }
+    }
+
+    /// Handles one block of the input, adding to the answers.
+    fn block(&mut self, block: &[u8], answers: &mut Vec<u8>) {
+        let mut rest = block;
+        while let Some(length) = rest.iter().position(|&byte| byte == b'\n') {
+            let line = &rest[..length];
+            if self.begun.is_empty() {
+                self.line(line, answers);
+            } else {
+                self.keep(line);
+                let line = std::mem::take(&mut self.begun);
+                self.line(&line, answers);
+            }
+            rest = &rest[length + 1..];
+        }
+        self.keep(rest);
+    }
+
+    /// Adds to the begun line, up to one byte more than any line can have.
+    fn keep(&mut self, bytes: &[u8]) {
+        let room = LONGEST_LINE + 1 - self.begun.len();
+        self.begun.extend_from_slice(&bytes[..bytes.len().min(room)]);
+    }
+
+    /// Handles one ended line, given without its line feed.
+    /// Decision: an empty line is a line, not of its form.
+    fn line(&mut self, line: &[u8], answers: &mut Vec<u8>) {
+        self.lines += 1;
+        let answer = match read_sample(line) {
+            Some(sample) => step(&mut self.board, &self.settings, &sample),
+            None => Err(SAMPLE_FORM),
+        };
+        let text = match answer {
+            Ok(report) => report_line(&report),
+            Err(number) => refused_line(number, self.lines),
+        };
+        answers.extend_from_slice(text.as_bytes());
+    }
+
+    /// Handles the end of the input: a begun line is unended, whatever it holds.
+    /// Decision: nothing after the last line feed is no line.
+    fn end(&mut self, answers: &mut Vec<u8>) {
+        if !self.begun.is_empty() {
+            let text = refused_line(SAMPLE_FORM, self.lines + 1);
+            answers.extend_from_slice(text.as_bytes());
+        }
+    }
+}
+
+/// The program: a sheet and sample lines in, a line a sample out. Ends early with the
+/// error of a failed write.
+pub fn run(mut input: impl Read, mut output: impl Write) -> io::Result<()> {
+    let mut block = vec![0; BLOCK_SIZE];
+
+    // The sheet, gathered until it is accepted or refused for good.
+    let mut gathered = Vec::new();
+    let (settings, rest_begins) = loop {
+        let size = read_block(&mut input, &mut block);
+        gathered.extend_from_slice(&block[..size]);
+        match read_sheet(&gathered) {
+            SheetResult::Accepted { settings, rest_begins } => break (settings, rest_begins),
+            SheetResult::Refused { number, line_number, line } => {
+                // More input can change this only if the line is still unended and not
+                // too long already.
+                // Decision: a sheet line too long for its form is refused as soon as that
+                // is seen; its end, if it has one, is not waited for.
+                let input_ended = size == 0;
+                let ends = gathered.iter().filter(|&&byte| byte == b'\n').count();
+                let line_ended = line_number <= ends;
+                if input_ended || line_ended || line.len() > LONGEST_LINE {
+                    output.write_all(refused_line(number, line_number as u64).as_bytes())?;
+                    return output.flush();
+                }
+            }
+        }
+    };
+
+    // The samples.
+    let mut samples = Samples::new(settings);
+    let mut answers = Vec::new();
+    samples.block(&gathered[rest_begins..], &mut answers);
+    loop {
+        output.write_all(&answers)?;
+        output.flush()?;
+        answers.clear();
+        let size = read_block(&mut input, &mut block);
+        if size == 0 {
+            break;
+        }
+        samples.block(&block[..size], &mut answers);
+    }
+    samples.end(&mut answers);
+    output.write_all(&answers)?;
+    output.flush()
+}
+
+// ---------------------------------------------------------------------------
+// The mode `calls`: one library call a line (not of document 01)
+// ---------------------------------------------------------------------------
+
+fn hex(bytes: &[u8]) -> String {
+    bytes.iter().map(|byte| format!("{:02x}", byte)).collect()
+}
+
+/// The numbers after the first word of a call. Other lines than those of the protocol
+/// never occur, so a number that cannot be read ends the program.
+fn numbers(words: &[&str]) -> Vec<i64> {
+    words.iter().map(|word| word.parse().expect("a decimal number")).collect()
+}
+
+/// Answers one call.
+/// Decision: STATUS is the number of the status, as in the record; hex digits are small.
+fn answer_call(call: &str, board: &mut Board, settings: &mut Settings) -> String {
+    let words: Vec<&str> = call.split_ascii_whitespace().collect();
+    match words[0] {
+        "fresh" => {
+            *board = fresh();
+            "ok".to_string()
+        }
+        "record" => {
+            let numbers = numbers(&words[1..]);
+            assert_eq!(numbers.len(), 13, "numbers of a record");
+            *board = Board {
+                status: u8::try_from(numbers[0]).expect("status"),
+                counters: std::array::from_fn(|i| u32::try_from(numbers[1 + i]).expect("counter")),
+                ramp: u32::try_from(numbers[10]).expect("ramp"),
+                watts: u16::try_from(numbers[11]).expect("watts"),
+                vars: i16::try_from(numbers[12]).expect("vars"),
+            };
+            "ok".to_string()
+        }
+        "settings" => {
+            let numbers = numbers(&words[1..]);
+            assert_eq!(numbers.len(), 2 * PAIRS, "numbers of settings");
+            let pairs = std::array::from_fn(|i| (numbers[2 * i], numbers[2 * i + 1]));
+            *settings = Settings::from_pairs(&pairs);
+            assert_eq!(settings.pairs(), pairs, "the width of the settings");
+            "ok".to_string()
+        }
+        "step" => {
+            let sample: Vec<u32> =
+                numbers(&words[1..]).iter().map(|&n| u32::try_from(n).expect("u32")).collect();
+            let answer = match step(board, settings, &sample) {
+                Ok(Report { status, bits, share, watts, vars }) => {
+                    let bits = binary(&bits);
+                    format!("report {} {:09b} {} {} {}", status, bits, share, watts, vars)
+                }
+                Err(number) => format!("refused {}", number),
+            };
+            let mut image = [0; IMAGE_SIZE];
+            save(board, &mut image).expect("45 bytes hold an image");
+            format!("{} {}", answer, hex(&image))
+        }
+        "save" => {
+            let mut buffer = vec![0xAA; words[1].parse().expect("a size")];
+            match save(board, &mut buffer) {
+                Ok(()) => format!("saved {}", hex(&buffer)),
+                Err(number) => format!("refused {} {}", number, hex(&buffer)),
+            }
+        }
+        _ => panic!("not a call: {}", call),
+    }
+}
+
+/// The sheet that document 01 shows.
+pub const DEFAULT_SHEET: &str = "\
+(trip (uv1 8800 2100))
+(trip (uv2 5000 200))
+(trip (ov1 11000 1300))
+(trip (ov2 12000 16))
+(trip (uf1 58500 30000))
+(trip (uf2 56500 16))
+(trip (of1 61200 30000))
+(trip (of2 62000 16))
+(enter (volts 9170 10500))
+(enter (hertz 59500 60100))
+(enter (wait 30000 30000))
+(var (9200 4400) (9800 0) (10200 0) (10800 -4400))
+(watt (10600 10000) (11000 2000))
+";
+
+pub fn default_settings() -> Settings {
+    match read_sheet(DEFAULT_SHEET.as_bytes()) {
+        SheetResult::Accepted { settings, .. } => settings,
+        SheetResult::Refused { .. } => unreachable!("the default sheet is accepted"),
+    }
+}
+
+/// Answers calls, one a line.
+/// Decision: until the first `settings` call, the default sheet's settings are lent.
+pub fn run_calls(input: impl Read, output: impl Write) -> io::Result<()> {
+    let mut input = BufReader::with_capacity(BLOCK_SIZE, input);
+    let mut output = BufWriter::with_capacity(BLOCK_SIZE, output);
+    let mut board = fresh();
+    let mut settings = default_settings();
+    let mut call = String::new();
+    while input.read_line(&mut call)? > 0 {
+        writeln!(output, "{}", answer_call(&call, &mut board, &mut settings))?;
+        call.clear();
+        // Who waits for an answer before the next call gets it.
+        if !input.buffer().contains(&b'\n') {
+            output.flush()?;
+        }
+    }
+    output.flush()
+}
+
+/// Decision: document 01 names no exit status. It is 0, for a refused sheet too; after a
+/// write error it is 1, since the output is not whole.
+fn main() -> ExitCode {
+    let input = io::stdin().lock();
+    // A file of the same description: unlike `Stdout` it does not hide any write error.
+    let Ok(output) = io::stdout().as_fd().try_clone_to_owned().map(File::from) else {
+        return ExitCode::FAILURE;
+    };
+    let calls = env::args_os().nth(1).is_some_and(|argument| argument == "calls");
+    let done = if calls { run_calls(input, output) } else { run(input.take(INPUT_END), output) };
+    match done {
+        Ok(()) => ExitCode::SUCCESS,
+        Err(_) => ExitCode::FAILURE,
+    }
+}
+
+// ---------------------------------------------------------------------------
+// Tests
+// ---------------------------------------------------------------------------
+
+#[cfg(test)]
+mod tests {
+    use super::*;
+
+    const LISTING_SAMPLES: &str = "\
+(at (1000 1000 1000) 60000 1 10000 10000)
+(at (1000 1000 1000) 60000 1 10000 10000)
+(at (1000 1000 1441) 60000 1 10000 10000)
+(at (4096 0 0) 60000 1 10000 10000)
+(at (1000 1000 1000) 60000 0 10000 10000)
+";
+
+    const LISTING_ANSWERS: &str = "\
+(report entering 000000001 0 0 0)
+(report entering 000000001 100 100 0)
+(report cease 000000000 100 0 0)
+(refused 4 17)
+(report tripped 000000000 0 0 0)
+";
+
+    const GOOD: &str = "(at (1000 1000 1000) 60000 1 10000 10000)\n";
+    const NORMAL: [u32; 7] = [1000, 1000, 1000, 60000, 1, 10000, 10000];
+
+    /// The default sheet with line `number` (from 1) put in place of its own.
+    fn sheet_with(number: usize, line: &str) -> String {
+        let mut lines: Vec<&str> = DEFAULT_SHEET.lines().collect();
+        lines[number - 1] = line;
+        lines.iter().map(|line| format!("{}\n", line)).collect()
+    }
+
+    fn quick_sheet() -> String {
+        sheet_with(11, "(enter (wait 0 100))")
+    }
+
+    fn quick_settings() -> Settings {
+        Settings { wait: 0, ramp: 100, ..default_settings() }
+    }
+
+    fn program(input: impl AsRef<[u8]>) -> String {
+        let mut output = Vec::new();
+        run(input.as_ref(), &mut output).unwrap();
+        String::from_utf8(output).unwrap()
+    }
+
+    /// The program's answers to samples after the quick sheet.
+    fn after_quick_sheet(samples: &str) -> String {
+        program(quick_sheet() + samples)
+    }
+
+    /// The refusal of a sheet: number, line number, line. Checks that the line is a part
+    /// of the text's own bytes and gives where it begins.
+    fn refusal(text: &[u8]) -> (u8, usize, Vec<u8>, usize) {
+        match read_sheet(text) {
+            SheetResult::Refused { number, line_number, line } => {
+                let begin = line.as_ptr() as usize - text.as_ptr() as usize;
+                assert!(begin + line.len() <= text.len());
+                (number, line_number, line.to_vec(), begin)
+            }
+            accepted => panic!("{:?}", accepted),
+        }
+    }
+
+    /// Puts `line` in the default sheet; gives 0 if it is accepted, or the refusal.
+    fn line_answer(number: usize, line: &str) -> u8 {
+        let text = sheet_with(number, line);
+        match read_sheet(text.as_bytes()) {
+            SheetResult::Accepted { rest_begins, .. } => {
+                assert_eq!(rest_begins, text.len());
+                0
+            }
+            SheetResult::Refused { number: refusal, line_number, line: refused } => {
+                assert_eq!(line_number, number);
+                assert_eq!(refused, line.as_bytes());
+                refusal
+            }
+        }
+    }
+
+    fn in_service(ramp: u32) -> Board {
+        Board { status: ENTERING, ramp, ..fresh() }
+    }
+
+    // --- sensing ---
+
+    #[test]
+    fn voltages_at_the_edges() {
+        let values = [
+            (0, 0), (1, 316), (774, 8797), (775, 8803), (840, 9165), (841, 9170),
+            (1440, 12000), (1441, 12004), (4095, 20236), (1000, 10000),
+        ];
+        for (code, expected) in values {
+            assert_eq!(voltage(code), expected, "code {}", code);
+        }
+    }
+
+    #[test]
+    fn square_rule_for_every_code() {
+        for code in 0..4096 {
+            let v = voltage(code);
+            assert!(v * v <= code * 100_000 && code * 100_000 < (v + 1) * (v + 1));
+        }
+    }
+
+    #[test]
+    fn square_root_at_the_ends_of_u32() {
+        assert_eq!(square_root(0), 0);
+        assert_eq!(square_root(u32::MAX), 65535);
+        assert_eq!(square_root(65535 * 65535), 65535);
+        assert_eq!(square_root(65535 * 65535 - 1), 65534);
+    }
+
+    #[test]
+    fn code_774_breaks_uv1_and_775_does_not() {
+        for (code, broken) in [(774, 1), (775, 0)] {
+            let mut board = fresh();
+            let sample = [1000, code, 1000, 60000, 1, 10000, 10000];
+            step(&mut board, &default_settings(), &sample).unwrap();
+            assert_eq!(board.counters[0], broken);
+            assert_eq!(board.counters[1..8], [0; 7]);
+        }
+    }
+
+    #[test]
+    fn code_1440_is_momentary_and_1441_cease() {
+        for (code, status, broken) in [(1440, MOMENTARY, 0), (1441, CEASE, 1)] {
+            let mut board = in_service(50);
+            let sample = [1000, 1000, code, 60000, 1, 10000, 10000];
+            let report = step(&mut board, &quick_settings(), &sample).unwrap();
+            assert_eq!(report.status, status);
+            assert_eq!((report.share, report.watts, report.vars), (5000, 0, 0));
+            assert_eq!(board.counters[3], broken);
+            assert_eq!(board.counters[2], 1);
+            assert_eq!(board.ramp, 50);
+        }
+    }
+
+    #[test]
+    fn code_841_is_in_range_and_840_is_not() {
+        for (code, ready) in [(841, true), (840, false)] {
+            let mut board = fresh();
+            let sample = [code, 1000, 1000, 60000, 1, 10000, 10000];
+            let report = step(&mut board, &quick_settings(), &sample).unwrap();
+            assert_eq!(report.bits[8], ready);
+            assert_eq!(report.status, if ready { ENTERING } else { TRIPPED });
+        }
+    }
+
+    #[test]
+    fn fifteen_steps_above_ov2_do_not_trip_and_sixteen_do() {
+        let mut board = in_service(100);
+        let sample = [1441, 1000, 1000, 60000, 1, 10000, 10000];
+        for i in 1..=15 {
+            let report = step(&mut board, &quick_settings(), &sample).unwrap();
+            assert_eq!((report.status, report.bits[3], report.share), (CEASE, false, 10000));
+            assert_eq!(board.counters[3], i);
+        }
+        for _ in 16..20 {
+            let report = step(&mut board, &quick_settings(), &sample).unwrap();
+            assert_eq!((report.status, report.bits[3], report.share), (TRIPPED, true, 0));
+            assert_eq!(board.counters[3], 16);
+        }
+        assert_eq!(board.counters[2], 19); // a trip clears no counter
+    }
+
+    // --- curves ---
+
+    #[test]
+    fn default_curves() {
+        let settings = default_settings();
+        let var = [
+            (0, 4400), (9199, 4400), (9200, 4400), (9201, 4393), (9500, 2200), (9799, 8),
+            (9800, 0), (10000, 0), (10200, 0), (10201, -7), (10500, -2200), (10799, -4392),
+            (10800, -4400), (20236, -4400),
+        ];
+        for (voltage, vars) in var {
+            assert_eq!(curve(&settings.var, voltage), vars, "at {}", voltage);
+        }
+        let watt = [(0, 10000), (10600, 10000), (10601, 9980), (10800, 6000), (10999, 2020),
+            (11000, 2000), (20236, 2000)];
+        for (voltage, watts) in watt {
+            assert_eq!(curve(&settings.watt, voltage), watts, "at {}", voltage);
+        }
+    }
+
+    #[test]
+    fn rising_quotients_are_cut_toward_zero_too() {
+        let points = [Point { voltage: 7000, power: -10000 }, Point { voltage: 7003, power: 10000 }];
+        assert_eq!(curve(&points, 7001), -10000 + 6666);
+        assert_eq!(curve(&points, 7002), -10000 + 13333);
+    }
+
+    #[test]
+    fn watts_beside_vars() {
+        let values = [(4400, 8979), (-4400, 8979), (10000, 0), (-10000, 0), (0, 10000), (6000, 8000)];
+        for (vars, watts) in values {
+            assert_eq!(watts_beside(vars), watts);
+        }
+        for vars in -10000..=10000 {
+            let p = watts_beside(vars);
+            assert!(p * p + vars * vars <= 100_000_000);
+            assert!((p + 1) * (p + 1) + vars * vars > 100_000_000);
+        }
+    }
+
+    #[test]
+    fn watts_are_the_least_of_five() {
+        let settings = quick_settings();
+        let watts = |ramp: u32, sample: [u32; 7]| {
+            let report = step(&mut in_service(ramp), &settings, &sample).unwrap();
+            (report.watts, report.vars)
+        };
+        assert_eq!(watts(100, NORMAL), (10000, 0));
+        assert_eq!(watts(100, [1000, 1000, 1000, 60000, 1, 7000, 8000]), (7000, 0));
+        assert_eq!(watts(100, [1000, 1000, 1000, 60000, 1, 8000, 6000]), (6000, 0));
+        assert_eq!(watts(29, NORMAL), (3000, 0));
+        // 1180: 10862; the watt curve's 10000 - 8000 * 262 / 400 = 4760.
+        assert_eq!(watts(100, [1180, 1180, 1180, 60000, 1, 10000, 10000]), (4760, -4400));
+        // 841: 9170; vars 4400 leave 8979.
+        assert_eq!(watts(100, [841, 841, 841, 60000, 1, 10000, 10000]), (8979, 4400));
+    }
+
+    #[test]
+    fn curves_use_the_mean_rounded_down() {
+        // 9170 + 9170 + 10000 = 28340, a third of which is 9446.67.
+        let sample = [841, 841, 1000, 60000, 1, 10000, 10000];
+        let report = step(&mut in_service(100), &quick_settings(), &sample).unwrap();
+        assert_eq!(i64::from(report.vars), curve(&quick_settings().var, 9446));
+        assert_eq!(report.vars, 4400 - 1804);
+    }
+
+    // --- the listing and the program ---
+
+    #[test]
+    fn listing() {
+        assert_eq!(after_quick_sheet(LISTING_SAMPLES), LISTING_ANSWERS);
+    }
+
+    /// Gives its bytes in reads of a fixed size.
+    struct Trickle<'a>(&'a [u8], usize);
+
+    impl Read for Trickle<'_> {
+        fn read(&mut self, block: &mut [u8]) -> io::Result<usize> {
+            let size = self.1.min(self.0.len()).min(block.len());
+            block[..size].copy_from_slice(&self.0[..size]);
+            self.0 = &self.0[size..];
+            Ok(size)
+        }
+    }
+
+    #[test]
+    fn listing_in_reads_of_every_size() {
+        let input = quick_sheet() + LISTING_SAMPLES;
+        for size in 1..=input.len() {
+            let mut output = Vec::new();
+            run(Trickle(input.as_bytes(), size), &mut output).unwrap();
+            assert_eq!(String::from_utf8(output).unwrap(), LISTING_ANSWERS);
+        }
+    }
+
+    #[test]
+    fn every_cut_of_the_listing() {
+        let input = quick_sheet() + LISTING_SAMPLES;
+        let sheet_size = quick_sheet().len();
+        for cut in 0..=input.len() {
+            let part = &input[..cut];
+            let ended = part.matches('\n').count();
+            let expected = if cut < sheet_size {
+                format!("(refused 1 {})\n", ended + 1)
+            } else {
+                let mut lines: String =
+                    LISTING_ANSWERS.split_inclusive('\n').take(ended - 13).collect();
+                if !part.ends_with('\n') {
+                    lines += &format!("(refused 8 {})\n", ended + 1);
+                }
+                lines
+            };
+            assert_eq!(program(part), expected, "cut at {}", cut);
+            let mut output = Vec::new();
+            run(input.as_bytes().take(cut as u64), &mut output).unwrap();
+            assert_eq!(String::from_utf8(output).unwrap(), expected);
+        }
+    }
+
+    #[test]
+    fn empty_input() {
+        assert_eq!(program(""), "(refused 1 1)\n");
+        assert_eq!(program("\n"), "(refused 1 1)\n");
+    }
+
+    #[test]
+    fn sheet_without_samples() {
+        assert_eq!(program(DEFAULT_SHEET), "");
+    }
+
+    #[test]
+    fn refused_sheet_ends_the_program() {
+        let sheet = sheet_with(4, "(trip (ov2 12001 16))");
+        assert_eq!(program(sheet + GOOD), "(refused 2 4)\n");
+        let sheet = sheet_with(13, "(watt (11000 10000) (11000 0))");
+        assert_eq!(program(sheet + GOOD), "(refused 3 13)\n");
+    }
+
+    #[test]
+    fn sample_lines_not_of_their_form() {
+        let lines = [
+            "(at)", "", " ", "at", "(at (1000 1000 1000) 60000 1 10000 10000) ",
+            " (at (1000 1000 1000) 60000 1 10000 10000)",
+            "(at (1000 1000 1000) 60000 1 10000 10000)\r",
+            "(at (1000 1000 1000) 60000 1 10000 10000)\0",
+            "(at (1000 1000 1000) 60000 1 10000 10000))",
+            "(at (1000 1000 1000) 60000 1 10000)",
+            "(at (1000 1000 1000) 60000 1 10000 10000 0)",
+            "(at (1000 1000) 60000 1 10000 10000)",
+            "(at (1000 1000 1000 1000) 60000 1 10000 10000)",
+            "(at (1000  1000 1000) 60000 1 10000 10000)",
+            "(at (1000\t1000 1000) 60000 1 10000 10000)",
+            "(at  (1000 1000 1000) 60000 1 10000 10000)",
+            "(at(1000 1000 1000) 60000 1 10000 10000)",
+            "(at (1000 1000 1000)60000 1 10000 10000)",
+            "(at ( 1000 1000 1000) 60000 1 10000 10000)",
+            "(at (1000 1000 1000 ) 60000 1 10000 10000)",
+            "(at (01000 1000 1000) 60000 1 10000 10000)",
+            "(at (00 1000 1000) 60000 1 10000 10000)",
+            "(at (-0 1000 1000) 60000 1 10000 10000)",
+            "(at (-1 1000 1000) 60000 1 10000 10000)",
+            "(at (+1 1000 1000) 60000 1 10000 10000)",
+            "(at (1000 1000 1000) 60000 1 -1 10000)",
+            "(at (1000 1000 1000) 60000 1 10000 1000000)",
+            "(at (1000 1000 1000) 60000 1 10000 0000001)",
+            "(at (1000 1000 1000) 60000 1 10000 )",
+            "(AT (1000 1000 1000) 60000 1 10000 10000)",
+            "(at (1000 1000 1000) 60000 1 10000 1000\u{661})",
+            "(at (1000 1000 1000) 60000.0 1 10000 10000)",
+            "(at (1000 1000 1000) 6e4 1 10000 10000)",
+            "(at (1000 1000 1000) 0x1 1 10000 10000)",
+        ];
+        for line in lines {
+            let samples = format!("{}\n{}", line, GOOD);
+            let expected = "(refused 8 14)\n(report entering 000000001 0 0 0)\n";
+            assert_eq!(after_quick_sheet(&samples), expected, "{:?}", line);
+        }
+    }
+
+    #[test]
+    fn sample_refusals_of_the_program() {
+        let refusals = [
+            ("(at (4096 1000 1000) 60000 1 10000 10000)", 4),
+            ("(at (1000 4096 1000) 39999 2 10001 10001)", 4),
+            ("(at (1000 1000 999999) 60000 1 10000 10000)", 4),
+            ("(at (1000 1000 1000) 39999 1 10000 10000)", 5),
+            ("(at (1000 1000 1000) 80001 2 10001 10000)", 5),
+            ("(at (1000 1000 1000) 0 2 10001 10000)", 5),
+            ("(at (1000 1000 1000) 60000 2 10000 10000)", 6),
+            ("(at (1000 1000 1000) 60000 2 10001 10000)", 6),
+            ("(at (1000 1000 1000) 60000 1 10001 10000)", 7),
+            ("(at (1000 1000 1000) 60000 1 10000 10001)", 7),
+            ("(at (4096 1000 1000) 39999 2 10001 1000000)", 8),
+        ];
+        for (line, number) in refusals {
+            let samples = format!("{}{}\n{}", GOOD, line, GOOD);
+            let expected = format!(
+                "(report entering 000000001 0 0 0)\n(refused {} 15)\n\
+                 (report entering 000000001 100 100 0)\n",
+                number
+            );
+            assert_eq!(after_quick_sheet(&samples), expected, "{}", line);
+        }
+    }
+
+    #[test]
+    fn lines_of_any_length() {
+        // Longer than a block, also where their first 74 bytes or fewer are a good line.
+        for size in [1, 32, 33, 34, 73, 74, 75, 1000, BLOCK_SIZE - 1, BLOCK_SIZE, 3 * BLOCK_SIZE] {
+            let long = format!("{}{}", GOOD.trim_end(), " ".repeat(size));
+            let samples = format!("{}\n{}{}", long, GOOD, long);
+            let expected = "(refused 8 14)\n(report entering 000000001 0 0 0)\n(refused 8 16)\n";
+            assert_eq!(after_quick_sheet(&samples), expected);
+            for end in ["", "\n"] {
+                let sheet = sheet_with(2, &format!("(trip (uv2 5000 200)){}", " ".repeat(size)));
+                assert_eq!(program(sheet + end), "(refused 1 2)\n");
+            }
+        }
+        let mut output = Vec::new();
+        run(io::repeat(b'(').take(10_000_000), &mut output).unwrap();
+        assert_eq!(output, b"(refused 1 1)\n");
+    }
+
+    #[test]
+    fn longest_line_has_the_longest_form() {
+        let line = "(var (999999 -999999) (999999 -999999) (999999 -999999) (999999 -999999))";
+        assert_eq!(line.len(), LONGEST_LINE);
+        assert_eq!(line_answer(12, line), 2);
+        for size in 1..=line.len() {
+            let input = sheet_with(12, line);
+            let mut output = Vec::new();
+            run(Trickle(input.as_bytes(), size), &mut output).unwrap();
+            assert_eq!(output, b"(refused 2 12)\n");
+        }
+    }
+
+    #[test]
+    fn many_blocks() {
+        let samples = GOOD.repeat(5000);
+        let answers = after_quick_sheet(&samples);
+        let lines: Vec<&str> = answers.lines().collect();
+        assert_eq!(lines.len(), 5000);
+        assert_eq!(lines[99], "(report entering 000000001 9900 9900 0)");
+        assert!(lines[100..].iter().all(|l| *l == "(report continuous 000000001 10000 10000 0)"));
+    }
+
+    #[test]
+    fn bytes_that_are_no_text() {
+        let mut input = quick_sheet().into_bytes();
+        input.extend_from_slice(b"\xff\xfe\n\0\n");
+        input.extend_from_slice(GOOD.as_bytes());
+        input.extend_from_slice(b"\xff");
+        let expected = "(refused 8 14)\n(refused 8 15)\n(report entering 000000001 0 0 0)\n\
+                        (refused 8 17)\n";
+        assert_eq!(program(input), expected);
+    }
+
+    /// Gives its bytes, then an error.
+    struct Failing<'a>(&'a [u8], io::ErrorKind);
+
+    impl Read for Failing<'_> {
+        fn read(&mut self, block: &mut [u8]) -> io::Result<usize> {
+            if self.0.is_empty() {
+                let kind = std::mem::replace(&mut self.1, io::ErrorKind::Other);
+                return Err(kind.into());
+            }
+            self.0.read(block)
+        }
+    }
+
+    #[test]
+    fn a_read_error_ends_the_input() {
+        for kind in [io::ErrorKind::Other, io::ErrorKind::Interrupted] {
+            let input = quick_sheet() + GOOD + "(at";
+            let mut output = Vec::new();
+            run(Failing(input.as_bytes(), kind), &mut output).unwrap();
+            assert_eq!(output, b"(report entering 000000001 0 0 0)\n(refused 8 15)\n");
+            let mut output = Vec::new();
+            run(Failing(b"(trip", kind), &mut output).unwrap();
+            assert_eq!(output, b"(refused 1 1)\n");
+        }
+    }
+
+    /// Fails every write.
+    struct Full;
+
+    impl Write for Full {
+        fn write(&mut self, _: &[u8]) -> io::Result<usize> {
+            Err(io::ErrorKind::StorageFull.into())
+        }
+        fn flush(&mut self) -> io::Result<()> {
+            Ok(())
+        }
+    }
+
+    #[test]
+    fn a_write_error_ends_the_program() {
+        let endless = quick_sheet().into_bytes();
+        assert!(run(endless.as_slice().chain(io::repeat(b'\n')), Full).is_err());
+        assert!(run("".as_bytes(), Full).is_err());
+    }
+
+    // --- the sheet ---
+
+    #[test]
+    fn default_sheet() {
+        let settings = default_settings();
+        let trips = [
+            (8800, 2100), (5000, 200), (11000, 1300), (12000, 16),
+            (58500, 30000), (56500, 16), (61200, 30000), (62000, 16),
+        ];
+        assert_eq!(settings.trips, trips.map(|(limit, time)| Trip { limit, time }));
+        assert_eq!(settings.volts, Range { low: 9170, high: 10500 });
+        assert_eq!(settings.hertz, Range { low: 59500, high: 60100 });
+        assert_eq!((settings.wait, settings.ramp), (30000, 30000));
+        let var = [(9200, 4400), (9800, 0), (10200, 0), (10800, -4400)];
+        assert_eq!(settings.var, var.map(|(voltage, power)| Point { voltage, power }));
+        let watt = [(10600, 10000), (11000, 2000)];
+        assert_eq!(settings.watt, watt.map(|(voltage, power)| Point { voltage, power }));
+    }
+
+    #[test]
+    fn refusal_table_examples_of_the_sheet() {
+        assert_eq!(line_answer(1, "(trip (uv1 08 2100))"), 1);
+        assert_eq!(line_answer(4, "(trip (ov2 12001 16))"), 2);
+        assert_eq!(line_answer(13, "(watt (11000 10000) (11000 0))"), 3);
+    }
+
+    /// Document 01's table, apart from `ROWS`.
+    const TABLE: [(&str, i64, i64, i64, i64); 11] = [
+        ("trip (uv1", 0, 8800, 2100, 5000),
+        ("trip (uv2", 0, 5000, 200, 2100),
+        ("trip (ov1", 11000, 12000, 100, 1300),
+        ("trip (ov2", 12000, 12000, 16, 16),
+        ("trip (uf1", 50000, 59000, 18000, 100000),
+        ("trip (uf2", 50000, 57000, 16, 100000),
+        ("trip (of1", 61000, 66000, 18000, 100000),
+        ("trip (of2", 61800, 66000, 16, 100000),
+        ("enter (volts", 8800, 9500, 10500, 10600),
+        ("enter (hertz", 59000, 59900, 60100, 61000),
+        ("enter (wait", 0, 60000, 100, 100000),
+    ];
+
+    #[test]
+    fn ends_of_the_rows() {
+        for (i, (name, low1, high1, low2, high2)) in TABLE.iter().copied().enumerate() {
+            let answer = |first: i64, second: i64| {
+                line_answer(i + 1, &format!("({} {} {}))", name, first, second))
+            };
+            for first in [low1, high1] {
+                for second in [low2, high2] {
+                    assert_eq!(answer(first, second), 0);
+                }
+            }
+            assert_eq!(answer(low1 - 1, low2), if low1 == 0 { 1 } else { 2 });
+            assert_eq!(answer(high1 + 1, low2), 2);
+            assert_eq!(answer(low1, low2 - 1), 2);
+            assert_eq!(answer(low1, high2 + 1), 2);
+            assert_eq!(answer(999999, 999999), 2);
+            assert_eq!(answer(0, 0), 2);
+            assert_eq!(answer(1000000, low2), 1);
+            assert_eq!(answer(low1, 1000000), 1);
+        }
+    }
+
+    #[test]
+    fn ends_of_the_var_row() {
+        let line = |pairs: [(&str, &str); 4]| {
+            let pairs: String = pairs.iter().map(|(v, p)| format!(" ({} {})", v, p)).collect();
+            line_answer(12, &format!("(var{})", pairs))
+        };
+        let good = [("7000", "-10000"), ("7001", "10000"), ("12999", "0"), ("13000", "-1")];
+        assert_eq!(line(good), 0);
+        let changes = [
+            (0, ("6999", "0"), 2), (3, ("13001", "0"), 2), (1, ("7001", "10001"), 2),
+            (2, ("12999", "-10001"), 2), (1, ("7000", "0"), 3), (2, ("13000", "0"), 3),
+            (1, ("13000", "0"), 3), (1, ("7001", "-0"), 1), (1, ("7001", "-00"), 1),
+            (1, ("7001", "-01"), 1), (1, ("7001", "--1"), 1), (1, ("7001", "+1"), 1),
+            (1, ("7001", "-"), 1), (1, ("-7001", "0"), 1), (1, ("7001", "-100000"), 2),
+            (1, ("7001", "-1000000"), 1), (0, ("0", "0"), 2), (0, ("999999", "999999"), 2),
+        ];
+        for (i, pair, answer) in changes {
+            let mut pairs = good;
+            pairs[i] = pair;
+            assert_eq!(line(pairs), answer, "{:?}", pairs);
+        }
+    }
+
+    #[test]
+    fn ends_of_the_watt_row() {
+        let lines = [
+            ("(watt (10000 0) (12000 10000))", 0), ("(watt (10000 0) (10001 0))", 0),
+            ("(watt (9999 0) (12000 10000))", 2), ("(watt (10000 0) (12001 10000))", 2),
+            ("(watt (10000 10001) (12000 0))", 2), ("(watt (10000 0) (12000 10001))", 2),
+            ("(watt (11000 0) (10999 0))", 3), ("(watt (12001 0) (12000 0))", 2),
+            ("(watt (10000 -1) (12000 0))", 1), ("(watt (10000 -0) (12000 0))", 1),
+            ("(watt (10000 0) (12000 -1))", 1),
+        ];
+        for (line, answer) in lines {
+            assert_eq!(line_answer(13, line), answer, "{}", line);
+        }
+    }
+
+    #[test]
+    fn sheet_lines_not_of_their_form() {
+        let lines = [
+            (1, ""), (1, "()"), (1, "(trip (uv1 8800 2100)) "), (1, " (trip (uv1 8800 2100))"),
+            (1, "(trip (uv1 8800 2100))\r"), (1, "(trip  (uv1 8800 2100))"),
+            (1, "(trip (uv1  8800 2100))"), (1, "(trip (uv1 8800  2100))"),
+            (1, "(trip (uv1 8800\t2100))"), (1, "(trip (uv1 8800 2100 ))"),
+            (1, "(trip (uv1 8800 2100) )"), (1, "(trip (uv1 8800 2100)"),
+            (1, "(trip (uv1 8800 2100)))"), (1, "(trip (uv1 8800))"), (1, "(trip (uv1 8800 ))"),
+            (1, "(trip (uv1 8800 2100 1))"), (1, "(trip (uv2 5000 200))"),
+            (1, "(trip (uv1 8800 02100))"), (1, "(trip (uv1 00 2100))"),
+            (1, "(trip (uv1 -0 2100))"), (1, "(trip (uv1 -1 2100))"),
+            (1, "(trip (uv1 8800 -2100))"), (1, "(trip (uv1 0008800 2100))"),
+            (1, "(trip (uv1 0000000 2100))"), (1, "(Trip (uv1 8800 2100))"),
+            (9, "(trip (volts 9170 10500))"), (11, "(enter (wait -1 100))"),
+            (12, "(var (9200 4400) (9800 0) (10200 0))"),
+            (12, "(var (9200 4400) (9800 0) (10200 0) (10800 -4400) (10900 0))"),
+            (12, "(var (9200 4400)(9800 0) (10200 0) (10800 -4400))"),
+            (12, "(var (9200 4400) (9800 0) (10200 0) (10800 - 4400))"),
+            (12, "(var 9200 4400 9800 0 10200 0 10800 -4400)"),
+            (13, "(watt (10600 10000))"), (13, "(watt (10600 10000) (11000 2000) (11100 0))"),
+        ];
+        for (number, line) in lines {
+            assert_eq!(line_answer(number, line), 1, "{:?}", line);
+        }
+    }
+
+    #[test]
+    fn missing_and_unended_lines() {
+        let text = DEFAULT_SHEET.as_bytes();
+        for cut in 0..text.len() {
+            let part = &text[..cut];
+            let ended = part.iter().filter(|&&byte| byte == b'\n').count();
+            let begin = part.iter().rposition(|&byte| byte == b'\n').map_or(0, |i| i + 1);
+            assert_eq!(refusal(part), (1, ended + 1, part[begin..].to_vec(), begin));
+        }
+    }
+
+    #[test]
+    fn an_unended_line_is_refused_1_whatever_it_holds() {
+        assert_eq!(refusal(b"(trip (uv1 8801 2100))"), (1, 1, b"(trip (uv1 8801 2100))".to_vec(), 0));
+        assert_eq!(refusal(b"(trip (uv1 8801 2100))\n").0, 2);
+    }
+
+    #[test]
+    fn an_empty_line_is_refused_at_its_place() {
+        let text = sheet_with(2, "");
+        assert_eq!(refusal(text.as_bytes()), (1, 2, vec![], 23));
+        assert_eq!(refusal(b""), (1, 1, vec![], 0));
+        assert_eq!(refusal(b"\n"), (1, 1, vec![], 0));
+    }
+
+    #[test]
+    fn carriage_returns() {
+        let text = DEFAULT_SHEET.replace('\n', "\r\n");
+        assert_eq!(refusal(text.as_bytes()), (1, 1, b"(trip (uv1 8800 2100))\r".to_vec(), 0));
+    }
+
+    #[test]
+    fn the_first_refused_line_is_given() {
+        let text = sheet_with(12, "(var (7000 0) (7000 0) (7000 0) (7000 0))")
+            .replace("(watt (10600 10000)", "(watt (0 10000)");
+        assert_eq!((refusal(text.as_bytes()).0, refusal(text.as_bytes()).1), (3, 12));
+        let text = text.replace("(enter (wait 30000", "(enter (wait 60001");
+        assert_eq!((refusal(text.as_bytes()).0, refusal(text.as_bytes()).1), (2, 11));
+    }
+
+    #[test]
+    fn bytes_past_the_thirteenth_line_are_not_the_sheets() {
+        let text = DEFAULT_SHEET.to_string() + "\u{0}anything\n(trip";
+        let expected = SheetResult::Accepted {
+            settings: default_settings(),
+            rest_begins: DEFAULT_SHEET.len(),
+        };
+        assert_eq!(read_sheet(text.as_bytes()), expected);
+        assert_eq!(read_sheet(DEFAULT_SHEET.as_bytes()), expected);
+    }
+
+    // --- the step ---
+
+    #[test]
+    fn refusals_of_a_step_change_nothing() {
+        let wild = Board {
+            status: 200, counters: [u32::MAX; 9], ramp: u32::MAX, watts: u16::MAX, vars: i16::MIN,
+        };
+        let refusals: [(&[u32], u8); 19] = [
+            (&[], 8), (&[1000; 6], 8), (&[1000; 8], 8), (&[u32::MAX; 8], 8),
+            (&[4096, 0, 0, 60000, 1, 0, 0], 4), (&[0, 4096, 0, 60000, 1, 0, 0], 4),
+            (&[0, 0, 4096, 60000, 1, 0, 0], 4), (&[u32::MAX; 7], 4),
+            (&[4095, 0, 0, 39999, 1, 0, 0], 5), (&[0, 0, 0, 80001, 1, 0, 0], 5),
+            (&[0, 0, 0, u32::MAX, u32::MAX, 0, 0], 5), (&[0; 7], 5),
+            (&[0, 0, 0, 60000, 2, 0, 0], 6), (&[0, 0, 0, 60000, u32::MAX, 10001, 0], 6),
+            (&[0, 0, 0, 40000, 1, 10001, 0], 7), (&[0, 0, 0, 80000, 0, 0, 10001], 7),
+            (&[0, 0, 0, 60000, 1, u32::MAX, u32::MAX], 7),
+            (&[0, 0, 0, 39999, 2, 10001, 10001], 5), (&[4096, 0, 0, 39999, 2, 10001, 10001], 4),
+        ];
+        for (sample, number) in refusals {
+            for before in [fresh(), wild] {
+                let mut board = before;
+                assert_eq!(step(&mut board, &default_settings(), sample), Err(number));
+                assert_eq!(board, before);
+            }
+        }
+    }
+
+    #[test]
+    fn ends_of_the_sample_are_accepted() {
+        for sample in [[0, 0, 0, 40000, 0, 0, 0], [4095, 4095, 4095, 80000, 1, 10000, 10000]] {
+            assert!(step(&mut fresh(), &default_settings(), &sample).is_ok());
+        }
+    }
+
+    #[test]
+    fn lent_settings_are_checked_before_the_sample() {
+        let good = default_settings();
+        for i in 0..PAIRS {
+            for second in [false, true] {
+                let is_power = second && i >= 11;
+                let extremes: [i64; 2] = if is_power {
+                    [i64::from(i32::MIN), i64::from(i32::MAX)]
+                } else {
+                    [1, i64::from(u32::MAX)]
+                };
+                for extreme in extremes {
+                    let mut pairs = good.pairs();
+                    *(if second { &mut pairs[i].1 } else { &mut pairs[i].0 }) = extreme;
+                    let lent = Settings::from_pairs(&pairs);
+                    assert_eq!(lent.pairs(), pairs);
+                    // 1 lies in the rows of uv1, uv2 and wait.
+                    let inside = extreme == 1 && !second && [0, 1, 10].contains(&i);
+                    let mut board = in_service(5);
+                    let answer = step(&mut board, &lent, &[]);
+                    assert_eq!(answer, Err(if inside { 8 } else { 2 }), "pair {}", i);
+                    assert_eq!(board, in_service(5));
+                }
+            }
+        }
+    }
+
+    #[test]
+    fn lent_settings_are_checked_in_sheet_order() {
+        let mut lent = default_settings();
+        lent.watt[0].voltage = 0;
+        assert_eq!(step(&mut fresh(), &lent, &NORMAL), Err(2));
+        lent.var[1].voltage = lent.var[0].voltage;
+        assert_eq!(step(&mut fresh(), &lent, &NORMAL), Err(3));
+        lent.var[3].power = 10001;
+        assert_eq!(step(&mut fresh(), &lent, &NORMAL), Err(2));
+        let mut lent = default_settings();
+        lent.watt[1] = lent.watt[0];
+        assert_eq!(step(&mut fresh(), &lent, &[4096; 7]), Err(3));
+        lent.ramp = 0;
+        assert_eq!(step(&mut fresh(), &lent, &[4096; 7]), Err(2));
+    }
+
+    #[test]
+    fn fresh_board_and_its_report() {
+        let board = Board { status: 0, counters: [0; 9], ramp: 0, watts: 0, vars: 0 };
+        assert_eq!(fresh(), board);
+        let report = Report { status: 0, bits: [false; 9], share: 0, watts: 0, vars: 0 };
+        assert_eq!(fresh_report(), report);
+    }
+
+    #[test]
+    fn limits_are_broken_strictly() {
+        // Every limit on the reading itself, then one step beyond.
+        let mut settings = quick_settings();
+        settings.trips[0].limit = voltage(700);
+        settings.trips[1].limit = voltage(200);
+        settings.trips[2].limit = voltage(1300);
+        let cases: [([u32; 7], [u32; 8]); 14] = [
+            ([700, 1000, 1000, 60000, 0, 0, 0], [0; 8]),
+            ([1000, 699, 1000, 60000, 0, 0, 0], [1, 0, 0, 0, 0, 0, 0, 0]),
+            ([1000, 1000, 200, 60000, 0, 0, 0], [1, 0, 0, 0, 0, 0, 0, 0]),
+            ([1000, 1000, 199, 60000, 0, 0, 0], [1, 1, 0, 0, 0, 0, 0, 0]),
+            ([1000, 1300, 1000, 60000, 0, 0, 0], [0; 8]),
+            ([1000, 1000, 1301, 60000, 0, 0, 0], [0, 0, 1, 0, 0, 0, 0, 0]),
+            ([0, 1441, 1000, 60000, 0, 0, 0], [1, 1, 1, 1, 0, 0, 0, 0]),
+            ([1000, 1000, 1000, 58500, 0, 0, 0], [0; 8]),
+            ([1000, 1000, 1000, 58499, 0, 0, 0], [0, 0, 0, 0, 1, 0, 0, 0]),
+            ([1000, 1000, 1000, 56500, 0, 0, 0], [0, 0, 0, 0, 1, 0, 0, 0]),
+            ([1000, 1000, 1000, 56499, 0, 0, 0], [0, 0, 0, 0, 1, 1, 0, 0]),
+            ([1000, 1000, 1000, 61200, 0, 0, 0], [0; 8]),
+            ([1000, 1000, 1000, 62000, 0, 0, 0], [0, 0, 0, 0, 0, 0, 1, 0]),
+            ([1000, 1000, 1000, 62001, 0, 0, 0], [0, 0, 0, 0, 0, 0, 1, 1]),
+        ];
+        for (sample, counters) in cases {
+            let mut board = fresh();
+            step(&mut board, &settings, &sample).unwrap();
+            assert_eq!(board.counters[..8], counters, "{:?}", sample);
+            assert_eq!(board.counters[8], 0);
+        }
+    }
+
+    #[test]
+    fn every_clearing_time() {
+        let settings = default_settings();
+        let low_volts = [200, 1000, 1000, 60000, 1, 10000, 10000];
+        let high_volts = [1000, 1441, 1000, 60000, 1, 10000, 10000];
+        let low_hertz = [1000, 1000, 1000, 50000, 1, 10000, 10000];
+        let high_hertz = [1000, 1000, 1000, 70000, 1, 10000, 10000];
+        let samples = [low_volts, low_volts, high_volts, high_volts,
+            low_hertz, low_hertz, high_hertz, high_hertz];
+        for (i, sample) in samples.iter().enumerate() {
+            let mut board = fresh();
+            for count in 1..=settings.trips[i].time + 2 {
+                let report = step(&mut board, &settings, sample).unwrap();
+                assert_eq!(board.counters[i], count.min(settings.trips[i].time));
+                assert_eq!(report.bits[i], count >= settings.trips[i].time);
+                assert_eq!(report.status, TRIPPED);
+            }
+            step(&mut board, &settings, &NORMAL).unwrap();
+            assert_eq!(board.counters[i], 0);
+        }
+    }
+
+    #[test]
+    fn bands() {
+        let cases = [
+            ([1000, 1000, 1000, 58800], CONTINUOUS), ([1000, 1000, 1000, 61200], CONTINUOUS),
+            ([1000, 1000, 1000, 58799], MANDATORY), ([1000, 1000, 1000, 61201], MANDATORY),
+            ([775, 1000, 1000, 60000], CONTINUOUS), ([774, 1000, 1000, 60000], MANDATORY),
+            ([250, 1000, 1000, 60000], MANDATORY), ([249, 1000, 1000, 60000], MOMENTARY),
+            ([1210, 1000, 1000, 60000], CONTINUOUS), ([1211, 1000, 1000, 60000], MOMENTARY),
+            ([1440, 1000, 1000, 60000], MOMENTARY), ([1441, 1000, 1000, 60000], CEASE),
+            ([1441, 0, 1000, 60000], CEASE), ([774, 1211, 1000, 50000], MOMENTARY),
+            ([249, 1000, 1000, 50000], MOMENTARY), ([0, 0, 0, 60000], MOMENTARY),
+        ];
+        for ([a, b, c, frequency], status) in cases {
+            let mut board = in_service(99);
+            let sample = [a, b, c, frequency, 1, 10000, 10000];
+            let report = step(&mut board, &quick_settings(), &sample).unwrap();
+            assert_eq!(report.status, status, "{:?}", sample);
+            assert_eq!(board.ramp, if status == CONTINUOUS { 100 } else { 99 });
+            let feeds = status == CONTINUOUS || status == MANDATORY;
+            assert_eq!(report.watts > 0, feeds);
+        }
+    }
+
+    #[test]
+    fn return_waits_for_consecutive_steps() {
+        let settings = Settings { wait: 3, ..quick_settings() };
+        let mut board = fresh();
+        let outside = [
+            [1000, 1000, 1000, 60000, 0, 10000, 10000],
+            [1000, 1000, 1000, 59499, 1, 10000, 10000],
+            [1000, 1000, 1000, 60101, 1, 10000, 10000],
+            [840, 1000, 1000, 60000, 1, 10000, 10000],
+            [1103, 1000, 1000, 60000, 1, 10000, 10000], // 10502
+        ];
+        for sample in outside {
+            for count in 1..3 {
+                let report = step(&mut board, &settings, &NORMAL).unwrap();
+                assert_eq!((report.status, report.bits[8]), (TRIPPED, false));
+                assert_eq!(board.counters[8], count);
+            }
+            step(&mut board, &settings, &sample).unwrap();
+            assert_eq!(board.counters[8], 0);
+        }
+        let edges = [
+            [841, 1102, 1000, 59500, 1, 0, 0], // 10497
+            [841, 1102, 1000, 60100, 1, 0, 0],
+            [841, 1102, 1000, 60100, 1, 0, 0],
+        ];
+        for (i, sample) in edges.iter().enumerate() {
+            let report = step(&mut board, &settings, sample).unwrap();
+            assert_eq!(report.bits[8], i == 2);
+            assert_eq!(report.status, if i == 2 { ENTERING } else { TRIPPED });
+        }
+        assert_eq!((board.counters[8], board.ramp), (3, 0));
+    }
+
+    #[test]
+    fn a_wait_of_0_counts_as_1() {
+        for wait in [0, 1] {
+            let mut board = fresh();
+            let settings = Settings { wait, ..quick_settings() };
+            let report = step(&mut board, &settings, &NORMAL).unwrap();
+            assert_eq!((report.status, report.bits[8], board.counters[8]), (ENTERING, true, 1));
+        }
+    }
+
+    #[test]
+    fn ramp_to_continuous() {
+        let mut board = fresh();
+        for count in 0..=102 {
+            let report = step(&mut board, &quick_settings(), &NORMAL).unwrap();
+            let ramp = count.min(100);
+            assert_eq!(board.ramp, ramp);
+            assert_eq!(u32::from(report.share), 100 * ramp);
+            assert_eq!(report.status, if ramp < 100 { ENTERING } else { CONTINUOUS });
+        }
+    }
+
+    #[test]
+    fn share_is_rounded_down() {
+        let settings = Settings { ramp: 30000, ..quick_settings() };
+        for (ramp, share) in [(1, 0), (2, 1), (3, 1), (5, 2), (29998, 9999), (29999, 10000)] {
+            let report = step(&mut in_service(ramp), &settings, &NORMAL).unwrap();
+            assert_eq!(report.share, share, "after {}", ramp);
+        }
+    }
+
+    #[test]
+    fn no_permission_trips_at_once() {
+        for status in ENTERING..=CEASE {
+            let mut board = Board { status, ramp: 100, ..fresh() };
+            let sample = [1000, 1000, 1000, 60000, 0, 10000, 10000];
+            let report = step(&mut board, &quick_settings(), &sample).unwrap();
+            assert_eq!(report, fresh_report());
+            assert_eq!(board, fresh());
+        }
+    }
+
+    // --- wild records ---
+
+    #[test]
+    fn wild_counts_are_read_as_their_top() {
+        let settings = default_settings();
+        let mut board = Board { counters: [u32::MAX; 9], ..fresh() };
+        let sample = [0, 0, 4095, 40000, 1, 10000, 10000];
+        let report = step(&mut board, &settings, &sample).unwrap();
+        assert_eq!(board.counters, [2100, 200, 1300, 16, 30000, 16, 0, 0, 0]);
+        assert_eq!(binary(&report.bits), 0b111111000);
+        let mut board = Board { counters: [u32::MAX; 9], ..fresh() };
+        let report = step(&mut board, &settings, &NORMAL).unwrap();
+        assert_eq!(board.counters, [0, 0, 0, 0, 0, 0, 0, 0, 30000]);
+        assert_eq!((report.status, report.bits[8], board.ramp), (ENTERING, true, 0));
+    }
+
+    #[test]
+    fn unknown_status_is_read_as_tripped_with_ramp_0() {
+        for status in [0, 6, 7, 128, 255] {
+            let wild = Board { status, ramp: 50, watts: u16::MAX, vars: i16::MIN, ..fresh() };
+            let mut board = wild;
+            let report = step(&mut board, &quick_settings(), &NORMAL).unwrap();
+            assert_eq!((report.status, board.ramp, report.share), (ENTERING, 0, 0));
+            let mut board = wild;
+            let report = step(&mut board, &default_settings(), &NORMAL).unwrap();
+            assert_eq!((report.status, board.ramp, report.watts), (TRIPPED, 0, 0));
+            assert_eq!((board.watts, board.vars), (0, 0));
+        }
+    }
+
+    #[test]
+    fn wild_ramp_is_read_as_the_ramp_length() {
+        for status in ENTERING..=CEASE {
+            for ramp in [99, 100, 101, u32::MAX] {
+                let mut board = Board { status, ramp, ..fresh() };
+                let report = step(&mut board, &quick_settings(), &NORMAL).unwrap();
+                assert_eq!((report.status, board.ramp, report.share), (CONTINUOUS, 100, 10000));
+                let mut board = Board { status, ramp: u32::MAX, ..fresh() };
+                let sample = [1000, 1000, 1000, 50000, 1, 10000, 10000];
+                let report = step(&mut board, &quick_settings(), &sample).unwrap();
+                assert_eq!((report.status, board.ramp, report.share), (MANDATORY, 100, 10000));
+            }
+        }
+    }
+
+    // --- the image ---
+
+    #[test]
+    fn image_of_a_record_as_it_is() {
+        let board = Board {
+            status: 0xF1,
+            counters: [0x01020304, 1, 2, 3, 4, 5, 6, 7, 0xFFFFFFFF],
+            ramp: 0x0A0B0C0D,
+            watts: 0xFEDC,
+            vars: -2,
+        };
+        let expected = "f10102030400000001000000020000000300000004000000050000000600000007\
+                        ffffffff0a0b0c0dfedcfffe";
+        for size in [45, 46, 100] {
+            let mut buffer = vec![0xAA; size];
+            assert_eq!(save(&board, &mut buffer), Ok(()));
+            assert_eq!(hex(&buffer[..45]), expected);
+            assert!(buffer[45..].iter().all(|&byte| byte == 0xAA));
+        }
+    }
+
+    #[test]
+    fn image_buffer_under_45_bytes() {
+        for size in [0, 1, 44] {
+            let mut buffer = vec![0xAA; size];
+            assert_eq!(save(&fresh(), &mut buffer), Err(9));
+            assert!(buffer.iter().all(|&byte| byte == 0xAA));
+        }
+    }
+
+    // --- calls ---
+
+    #[test]
+    fn calls() {
+        let settings: String =
+            quick_settings().pairs().iter().map(|(a, b)| format!(" {} {}", a, b)).collect();
+        let input = format!(
+            "settings{}\nstep 1000 1000 1000 60000 1 10000 10000\nstep\nsave 45\nsave 46\nsave 2\n\
+             save 0\nrecord 255 1 2 3 4 5 6 7 8 4294967295 9 65535 -32768\nsave 45\nfresh\n\
+             step 4096 0 0 60000 1 0 0\n",
+            settings
+        );
+        let entered = format!("01{}{}", "00000000".repeat(8), "000000010000000000000000");
+        let zero = "00".repeat(45);
+        let expected = format!(
+            "ok\nreport 1 000000001 0 0 0 {entered}\nrefused 8 {entered}\nsaved {entered}\n\
+             saved {entered}aa\nrefused 9 aaaa\nrefused 9 \nok\n\
+             saved ff0000000100000002000000030000000400000005000000060000000700000008\
+             ffffffff00000009ffff8000\nok\nrefused 4 {zero}\n"
+        );
+        let mut output = Vec::new();
+        run_calls(input.as_bytes(), &mut output).unwrap();
+        assert_eq!(String::from_utf8(output).unwrap(), expected);
+    }
+}

@@ -1,0 +1,219 @@
+// Executed cases: document 01, "Values at the edges" and "Turned-away input". Each line names a case and what the library gave.
+ghost use Prim.Native.Nat.{_≤_};
+use libc::STDOUT_FILENO;
+use rules::Answer;
+use rules::Board;
+use rules::Limit;
+use rules::Point;
+use rules::Refusal;
+use rules::Saved;
+use rules::Sensed;
+use rules::Settings;
+use rules::Span;
+
+fn wide16(x: u16) -> u64 {
+    x as u64
+}
+
+fn wide8(x: u8) -> u64 {
+    x as u64
+}
+
+// The paper's number of a cause.
+fn number(cause: Refusal) -> u64
+    ensures { λ r. ⌜ r ≤ 9 ⌝ }
+{
+    match cause {
+        Refusal::Form => 1,
+        Refusal::Range => 2,
+        Refusal::Rise => 3,
+        Refusal::Code => 4,
+        Refusal::Frequency => 5,
+        Refusal::Permission => 6,
+        Refusal::Power => 7,
+        Refusal::Sample => 8,
+        Refusal::Buffer => 9,
+    }
+}
+
+fn show(label: &[u8], n: u64) {
+    io::write_all(STDOUT_FILENO, label);
+    io::print_decimal(STDOUT_FILENO, n);
+    io::write_all(STDOUT_FILENO, b"\n");
+}
+
+// The default sheet with a return wait of 0 steps and a ramp of 100.
+fn sheet() -> Settings {
+    Settings {
+        trip: [
+            Limit {
+                level: 8800,
+                clearing: 2100,
+            },
+            Limit {
+                level: 5000,
+                clearing: 200,
+            },
+            Limit {
+                level: 11000,
+                clearing: 1300,
+            },
+            Limit {
+                level: 12000,
+                clearing: 16,
+            },
+            Limit {
+                level: 58500,
+                clearing: 30000,
+            },
+            Limit {
+                level: 56500,
+                clearing: 16,
+            },
+            Limit {
+                level: 61200,
+                clearing: 30000,
+            },
+            Limit {
+                level: 62000,
+                clearing: 16,
+            },
+        ],
+        volts: Span {
+            low: 9170,
+            high: 10500,
+        },
+        hertz: Span {
+            low: 59500,
+            high: 60100,
+        },
+        wait: 0,
+        ramp: 100,
+        var: [
+            Point {
+                volts: 9200,
+                power: 4400,
+            },
+            Point {
+                volts: 9800,
+                power: 0,
+            },
+            Point {
+                volts: 10200,
+                power: 0,
+            },
+            Point {
+                volts: 10800,
+                power: -4400,
+            },
+        ],
+        watt: [
+            Point {
+                volts: 10600,
+                power: 10000,
+            },
+            Point {
+                volts: 11000,
+                power: 2000,
+            },
+        ],
+    }
+}
+
+// The voltage of a code, or 1000000 and the refusal's number.
+fn volts_of(code: u32) -> u64 {
+    match sensing::sense(code) {
+        Sensed::Volts(v) => wide16(v),
+        Sensed::Refused(cause) => 1000000 + number(cause),
+    }
+}
+
+// The status that an answer shows, or 100 and the refusal's number.
+fn shown(answer: Answer) -> u64 {
+    match answer {
+        Answer::Reported(r) => wide8(r.status),
+        Answer::Refused(cause) => 100 + number(cause),
+    }
+}
+
+// The answer to one call on a fresh record.
+fn first(s: Settings, code: u32, frequency: u32, permission: u32, available: u32) -> u64 {
+    let x = [code, 1000, 1000, frequency, permission, available, 10000];
+    let t = service::step::step(service::fresh(), s, &x);
+    let answer = t.answer;
+    shown(answer)
+}
+
+// In service, then n steps with all phases above ov2: the last status.
+fn status_above_ov2(n: u32) -> u64 {
+    let s = sheet();
+    let calm = [1000, 1000, 1000, 60000, 1, 10000, 10000];
+    let mut t = service::step::step(service::fresh(), s, &calm);
+    let high = [1441, 1441, 1441, 60000, 1, 10000, 10000];
+    let mut i: u32 = 0;
+    while i < n {
+        let b = t.board;
+        t = service::step::step(b, s, &high);
+        i += 1;
+    }
+    let answer = t.answer;
+    shown(answer)
+}
+
+fn saved_number(answer: Saved) -> u64 {
+    match answer {
+        Saved::Written => 0,
+        Saved::Refused(cause) => number(cause),
+    }
+}
+
+// The board after one step in service with vars on the falling side.
+fn exporting() -> Board {
+    let s = sheet();
+    let calm = [1000, 1000, 1000, 60000, 1, 10000, 10000];
+    let t = service::step::step(service::fresh(), s, &calm);
+    let falling = [1041, 1041, 1041, 60000, 1, 10000, 10000];
+    let u = service::step::step(t.board, s, &falling);
+    u.board
+}
+
+fn show_bytes(bytes: &[u8]) {
+    let mut i = 0;
+    while i < bytes.len() {
+        show(b"byte ", wide8(bytes[i]));
+        i += 1;
+    }
+}
+
+fn images() {
+    let b = exporting();
+    let mut short = [170u8; 44];
+    show(
+        b"save into 44 bytes: ",
+        saved_number(image::save(b, &mut short)),
+    );
+    show(b"its first byte: ", wide8(short[0]));
+    let mut buffer = [170u8; 46];
+    show(
+        b"save into 46 bytes: ",
+        saved_number(image::save(b, &mut buffer)),
+    );
+    show_bytes(&buffer);
+}
+
+fn main() {
+    show(b"code 841: ", volts_of(841));
+    show(b"code 840: ", volts_of(840));
+    show(b"code 4095: ", volts_of(4095));
+    show(b"code 4096: ", volts_of(4096));
+    let s = sheet();
+    show(b"lowest voltage 9170: ", first(s, 841, 60000, 1, 10000));
+    show(b"lowest voltage 9165: ", first(s, 840, 60000, 1, 10000));
+    show(b"code above the table: ", first(s, 4096, 60000, 1, 10000));
+    show(b"frequency 39999: ", first(s, 1000, 39999, 1, 10000));
+    show(b"permission 2: ", first(s, 1000, 60000, 2, 10000));
+    show(b"available 10001: ", first(s, 1000, 60000, 1, 10001));
+    show(b"fifteen steps above ov2: ", status_above_ov2(15));
+    show(b"sixteen steps above ov2: ", status_above_ov2(16));
+    images();
+}
