@@ -29,7 +29,8 @@ ours = ruledBy ourEquipment
 
 -- Demand 1, for the library: `RefusesRightly` in claims/specs/FirstCause.antt. Checking settings, sensing, the step and the saving refuse with n
 -- exactly when n is the first cause in document 01's order, accept input with none of the causes, and a refusal leaves the record and
--- every lent byte as they were. (Reading a sheet, cause 1, comes with the program. That the operations stay inside their buffers and
+-- every lent byte as they were. (Reading a sheet, cause 1, is the contract of `sheet::read`, an equation
+-- with `readSheet`; its statement here comes with the program. That the operations stay inside their buffers and
 -- their arithmetic and end is part of each function's own proof.)
 abbrev pub OurRefusals : Type 0
 OurRefusals = RefusesRightly ourEquipment
