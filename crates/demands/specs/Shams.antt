@@ -110,7 +110,7 @@ repeatsFirst = record { start = fresh; step = λ b st x. cond (untouched b) (hon
 unfoldable pub keepsRecord : Program
 keepsRecord = record { start = fresh; step = λ b st x. record { board = b; answer = honest b st x .answer } }
 
--- "turns away good sheets or samples": it keeps its record as it should, and refuses with 4 every sample whose report is the one before
+-- "turns away good sheets or samples": it keeps its record as it should, and refuses with 4 every sample that leaves the status as it was
 unfoldable pub turnsAway : Program
 turnsAway =
     record {
