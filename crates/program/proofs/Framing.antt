@@ -1,0 +1,89 @@
+-- The lines of a text, one by one, and of two texts put together.
+-- Assumes nothing.
+use mathlib.Core.Path.{_≡_, refl, sym, ap, ap₂, _∙_}
+use mathlib.Core.Bool.{Bool, true, false, cond, _||_, false≢true}
+use mathlib.Core.List.{List, [], _∷_, _++_, append-assoc, append-nil}
+use Prim.Native.Nat.{ℕ}
+use lib.Dec.{eqb}
+use lib.Seq.{append-snoc}
+use Rattle.rules.specs.Text.{feed, firstLine, hasFeed, afterLine}
+use Rattle.rules.specs.Transcripts.{Line, ended, unended, lastLine, linesAfter, linesIn}
+
+lines-after : (before s : List ℕ)
+    → linesAfter before s ≡ cond (hasFeed s) (ended (before ++ firstLine s) ∷ linesAfter [] (afterLine s)) (lastLine (before ++ s))
+unfolding linesAfter hasFeed firstLine afterLine
+lines-after before [] = rw append-nil
+lines-after before (b ∷ s) = by (eqb b feed) (lines-after (before ++ (b ∷ [])) s)
+  where
+    by : (t : Bool)
+        → linesAfter (before ++ (b ∷ [])) s ≡ cond (hasFeed s) (ended ((before ++ (b ∷ [])) ++ firstLine s) ∷ linesAfter [] (afterLine s)) (lastLine ((before ++ (b ∷ [])) ++ s))
+        → cond t (ended before ∷ linesAfter [] s) (linesAfter (before ++ (b ∷ [])) s)
+        ≡ cond (t || hasFeed s) (ended (before ++ cond t [] (b ∷ firstLine s)) ∷ linesAfter [] (cond t s (afterLine s))) (lastLine (before ++ (b ∷ s)))
+    by true e = rw append-nil
+    by false e = e ∙ rw (append-snoc before b (firstLine s), append-snoc before b s)
+
+pub lines-fed : (s : List ℕ) → hasFeed s ≡ true → linesIn s ≡ ended (firstLine s) ∷ linesIn (afterLine s)
+unfolding linesIn
+lines-fed s e = lines-after [] s ∙ rw e
+
+pub lines-unfed : (s : List ℕ) → hasFeed s ≡ false → linesIn s ≡ lastLine s
+unfolding linesIn
+lines-unfed s e = lines-after [] s ∙ rw e
+
+-- ---- a text with a line feed, and anything after it
+
+pub feed-front : (s t : List ℕ) → hasFeed s ≡ true → hasFeed (s ++ t) ≡ true
+unfolding hasFeed
+feed-front [] t e = absurd (false≢true e)
+feed-front (b ∷ s) t e = by (eqb b feed) e (feed-front s t)
+  where
+    by : (k : Bool) → (k || hasFeed s) ≡ true → (hasFeed s ≡ true → hasFeed (s ++ t) ≡ true) → (k || hasFeed (s ++ t)) ≡ true
+    by true p rec = refl
+    by false p rec = rec p
+
+pub line-front : (s t : List ℕ) → hasFeed s ≡ true → firstLine (s ++ t) ≡ firstLine s
+unfolding hasFeed firstLine
+line-front [] t e = absurd (false≢true e)
+line-front (b ∷ s) t e = by (eqb b feed) e (line-front s t)
+  where
+    by : (k : Bool) → (k || hasFeed s) ≡ true → (hasFeed s ≡ true → firstLine (s ++ t) ≡ firstLine s) → cond k [] (b ∷ firstLine (s ++ t)) ≡ cond k [] (b ∷ firstLine s)
+    by true p rec = refl
+    by false p rec = ap (λ (l : List ℕ). b ∷ l) (rec p)
+
+pub after-front : (s t : List ℕ) → hasFeed s ≡ true → afterLine (s ++ t) ≡ afterLine s ++ t
+unfolding hasFeed afterLine
+after-front [] t e = absurd (false≢true e)
+after-front (b ∷ s) t e = by (eqb b feed) e (after-front s t)
+  where
+    by : (k : Bool) → (k || hasFeed s) ≡ true → (hasFeed s ≡ true → afterLine (s ++ t) ≡ afterLine s ++ t) → cond k (s ++ t) (afterLine (s ++ t)) ≡ cond k s (afterLine s) ++ t
+    by true p rec = refl
+    by false p rec = rec p
+
+-- ---- a text without one
+
+pub feed-past-plain : (s t : List ℕ) → hasFeed s ≡ false → hasFeed (s ++ t) ≡ hasFeed t
+unfolding hasFeed
+feed-past-plain [] t e = refl
+feed-past-plain (b ∷ s) t e = by (eqb b feed) e (feed-past-plain s t)
+  where
+    by : (k : Bool) → (k || hasFeed s) ≡ false → (hasFeed s ≡ false → hasFeed (s ++ t) ≡ hasFeed t) → (k || hasFeed (s ++ t)) ≡ hasFeed t
+    by true p rec = absurd (false≢true (sym p))
+    by false p rec = rec p
+
+pub line-past-plain : (s t : List ℕ) → hasFeed s ≡ false → firstLine (s ++ t) ≡ s ++ firstLine t
+unfolding hasFeed firstLine
+line-past-plain [] t e = refl
+line-past-plain (b ∷ s) t e = by (eqb b feed) e (line-past-plain s t)
+  where
+    by : (k : Bool) → (k || hasFeed s) ≡ false → (hasFeed s ≡ false → firstLine (s ++ t) ≡ s ++ firstLine t) → cond k [] (b ∷ firstLine (s ++ t)) ≡ b ∷ (s ++ firstLine t)
+    by true p rec = absurd (false≢true (sym p))
+    by false p rec = ap (λ (l : List ℕ). b ∷ l) (rec p)
+
+pub after-past-plain : (s t : List ℕ) → hasFeed s ≡ false → afterLine (s ++ t) ≡ afterLine t
+unfolding hasFeed afterLine
+after-past-plain [] t e = refl
+after-past-plain (b ∷ s) t e = by (eqb b feed) e (after-past-plain s t)
+  where
+    by : (k : Bool) → (k || hasFeed s) ≡ false → (hasFeed s ≡ false → afterLine (s ++ t) ≡ afterLine t) → cond k (s ++ t) (afterLine (s ++ t)) ≡ afterLine t
+    by true p rec = absurd (false≢true (sym p))
+    by false p rec = rec p

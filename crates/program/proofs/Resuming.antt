@@ -1,0 +1,133 @@
+-- What is written from a state on, line by line; all done, nothing is; and dropping the beginning of a line longer than any form
+-- changes nothing of it.
+-- Assumes nothing.
+use mathlib.Core.Path.{_≡_, refl, sym, ap, ap₂, _∙_}
+use mathlib.Core.Bool.{Bool, true, false, cond, _||_, false≢true}
+use mathlib.Core.List.{List, [], _∷_, _++_}
+use mathlib.Core.Option.{Option, none, some}
+use Prim.Native.Nat.{ℕ, suc, _+_, _-_, _<_}
+use native.Mathlib.Omega.{arith}
+use lib.Dec.{ltb, eqb}
+use lib.IntN.{ℤ}
+use lib.ListN.{length, length-append}
+use Rattle.rules.specs.Samples.{Equipment}
+use Rattle.rules.specs.Forms.{sheetForms, sampleForm, numbersOf}
+use Rattle.rules.specs.Text.{firstLine, hasFeed, afterLine}
+use Rattle.rules.specs.Transcripts.{Line, ended, unended, lastLine, linesIn, refusedLine, onSampleNumbers}
+use Rattle.rules.specs.declared.Settings.{Settings}
+use Rattle.rules.specs.declared.Refusal.the-variants.{Form, Sample}
+use Rattle.rules.specs.declared.SettingsCheck.{SettingsCheck}
+use Rattle.text.specs.Forms.{forms, formAt}
+use Rattle.text.proofs.Made.{too-long}
+use Rattle.sheet.specs.Storing.{onLine}
+use Rattle.sheet.specs.declared.LineRead.{LineRead}
+use borrow.Author.Tests.{ltb-true}
+use Rattle.program.specs.States.{isDone, readsSheet, stopped}
+use Rattle.program.specs.Saying.{Said, numbersIn, onCheck, onRead, sheetLine, onStepped, sampleLine, said, isSome, endText, following, resume}
+use Rattle.program.specs.declared.State.{State}
+use Rattle.program.proofs.Framing.{lines-fed, lines-unfed, feed-past-plain, line-past-plain, after-past-plain}
+
+module _ (e : Equipment) where
+  pub resume-fed : (q : State) (s : List ℕ) → hasFeed s ≡ true
+      → resume e q s ≡ said e q (firstLine s) .text ++ resume e (said e q (firstLine s) .state) (afterLine s)
+  unfolding following
+  resume-fed q s p = ap (following e q) (lines-fed s p)
+
+  pub resume-unfed : (q : State) (s : List ℕ) → hasFeed s ≡ false → resume e q s ≡ endText q s
+  unfolding following
+  resume-unfed q [] p = ap (following e q) (lines-unfed [] p)
+  resume-unfed q (b ∷ s) p = ap (following e q) (lines-unfed (b ∷ s) p)
+
+  -- ---- all done
+
+  pub done-said : (q : State) (l : List ℕ) → isDone q ≡ true → said e q l ≡ record { state = q; text = [] }
+  unfolding said
+  done-said q l p = rw p
+
+  pub done-end : (q : State) (l : List ℕ) → isDone q ≡ true → endText q l ≡ []
+  unfolding endText
+  done-end q l p = rw p
+
+  done-following : (q : State) (ls : List Line) → isDone q ≡ true → following e q ls ≡ []
+  unfolding following
+  done-following q [] p = done-end q [] p
+  done-following q (ended l ∷ ls) p = rw (done-said q l p) (done-following q ls p)
+  done-following q (unended l ∷ ls) p = done-end q l p
+
+  pub done-resume : (q : State) (s : List ℕ) → isDone q ≡ true → resume e q s ≡ []
+  done-resume q s p = done-following q (linesIn s) p
+
+  -- ---- the bytes a line takes
+
+  check-taken : (q : State) (n : ℕ) (st : Settings) (c : SettingsCheck) → onCheck q n st c .state .taken ≡ q .taken + n
+  check-taken q n st SettingsCheck.Accepted = refl
+  check-taken q n st (SettingsCheck.Refused cause line) = refl
+
+  pub said-taken : (q : State) (l : List ℕ) → isDone q ≡ false → said e q l .state .taken ≡ q .taken + (length l + 1)
+  unfolding said
+  said-taken q l p = rw p (by (readsSheet q))
+    where
+      by : (b : Bool) → cond b (sheetLine q l) (sampleLine e q l) .state .taken ≡ q .taken + (length l + 1)
+      by true =
+          let r = onLine (q .line - 1) (q .settings) (numbersIn (q .long) (formAt (q .line - 1)) l) in
+          check-taken q (length l + 1) (r .settings) (r .check)
+      by false = refl
+
+-- ---- a line longer than any form
+
+-- the state once the bytes s of a line are dropped
+abbrev pub droppedFrom : State → List ℕ → State
+droppedFrom q s =
+    record { phase = q .phase; line = q .line; long = true; taken = q .taken + length s; settings = q .settings; board = q .board }
+
+sample-form : formAt 13 ≡ sampleForm
+unfolding forms sheetForms
+sample-form = refl
+
+-- by now the line has no form, whatever follows
+module _ (e : Equipment) (q : State) (s : List ℕ) (b : Bool) (is : q .long ≡ b) (h : (b || ltb 128 (length s)) ≡ true) where
+  no-numbers : (i : ℕ) (l : List ℕ) → numbersIn (q .long) (formAt i) (s ++ l) ≡ none
+  no-numbers i l = rw is (by b h)
+    where
+      by : (k : Bool) → (k || ltb 128 (length s)) ≡ true → numbersIn k (formAt i) (s ++ l) ≡ none
+      by true p = refl
+      by false p = too-long i (s ++ l) (omega (arith, length-append s l, ltb-true 128 (length s) p))
+
+  some-bytes : (t : List ℕ) → (q .long || isSome (s ++ t)) ≡ true
+  some-bytes t = rw is (by b s h)
+    where
+      by : (k : Bool) (r : List ℕ) → (k || ltb 128 (length r)) ≡ true → (k || isSome (r ++ t)) ≡ true
+      by true r p = refl
+      by false [] p = absurd (false≢true p)
+      by false (c ∷ r) p = refl
+
+  longer : (l : List ℕ) → q .taken + (length (s ++ l) + 1) ≡ q .taken + length s + (length l + 1)
+  longer l = omega (arith, length-append s l)
+
+  pub dropped-said : (l : List ℕ) → isDone q ≡ false → said e q (s ++ l) ≡ said e (droppedFrom q s) l
+  unfolding said
+  dropped-said l p = rw p (by (readsSheet q))
+    where
+      by : (k : Bool) → cond k (sheetLine q (s ++ l)) (sampleLine e q (s ++ l)) ≡ cond k (sheetLine (droppedFrom q s) l) (sampleLine e (droppedFrom q s) l)
+      by true = rw (no-numbers (q .line - 1) l, longer l)
+      by false =
+          rw (← sample-form) (rw (no-numbers 13 l, longer l))
+
+  pub dropped-end : (t : List ℕ) → endText q (s ++ t) ≡ endText (droppedFrom q s) t
+  unfolding endText
+  dropped-end t = rw (some-bytes t)
+
+  pub dropped-resume : (t : List ℕ) → hasFeed s ≡ false → resume e q (s ++ t) ≡ resume e (droppedFrom q s) t
+  dropped-resume t plain = by-done (isDone q) refl
+    where
+      by-feed : isDone q ≡ false → (k : Bool) → hasFeed t ≡ k → resume e q (s ++ t) ≡ resume e (droppedFrom q s) t
+      by-feed p true f =
+          resume-fed e q (s ++ t) (feed-past-plain s t plain ∙ f)
+          ∙ rw (line-past-plain s t plain, after-past-plain s t plain, dropped-said (firstLine t) p) (sym (resume-fed e (droppedFrom q s) t f))
+      by-feed p false f =
+          resume-unfed e q (s ++ t) (feed-past-plain s t plain ∙ f)
+          ∙ dropped-end t ∙ sym (resume-unfed e (droppedFrom q s) t f)
+
+      by-done : (k : Bool) → isDone q ≡ k → resume e q (s ++ t) ≡ resume e (droppedFrom q s) t
+      by-done true p = done-resume e q (s ++ t) p ∙ sym (done-resume e (droppedFrom q s) t p)
+      by-done false p = by-feed p (hasFeed t) refl

@@ -1,0 +1,4 @@
+pub mod States
+pub mod Saying
+pub mod Responses
+pub mod Sessions

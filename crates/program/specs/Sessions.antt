@@ -1,0 +1,71 @@
+-- The transcript law: however an input is cut into blocks, what `respond` writes, put together, is the transcript of the input.
+-- Assumes nothing.
+use mathlib.Core.Path.{_≡_}
+use mathlib.Core.Bool.{Bool, true, false}
+use mathlib.Core.List.{List, [], _∷_, _++_}
+use Prim.Native.Nat.{ℕ, _+_, _-_, _≤_, _<_}
+use lib.ListN.{length, take, drop}
+use Rattle.rules.specs.Samples.{Equipment}
+use Rattle.rules.specs.Text.{firstLine, hasFeed}
+use Rattle.rules.specs.Transcripts.{transcript}
+use Rattle.program.specs.States.{start, isDone}
+use Rattle.program.specs.Saying.{Said, resume}
+use Rattle.program.specs.Responses.{budget, lineRoom, respondOf}
+use Rattle.program.specs.declared.State.{State}
+
+-- a host between two calls: the state, the bytes that have come and are not taken, and all that was written
+pub record Session : Type 0 where
+  pub state : State
+  pub left : List ℕ
+  pub text : List ℕ
+
+-- the bytes that come before a call, and the size of the buffer lent to it
+pub record Call : Type 0 where
+  pub bytes : List ℕ
+  pub size : ℕ
+
+abbrev pub opened : Session
+opened = record { state = start; left = []; text = [] }
+
+-- a call with what the one before left and the bytes that have come since
+abbrev pub called : Equipment → Bool → Session → Call → Session
+called e last k c =
+    let r = respondOf e (k .state) (k .left ++ c .bytes) last (c .size) in
+    record {
+      state = r .state;
+      left = drop (r .state .taken - k .state .taken) (k .left ++ c .bytes);
+      text = k .text ++ r .text;
+    }
+
+-- while input comes
+unfoldable pub during : Equipment → Session → List Call → Session
+during e k [] = k
+during e k (c ∷ cs) = during e (called e false k c) cs
+
+-- when it has ended: calls with the sizes of the buffers lent to them and no new bytes
+unfoldable pub ending : Equipment → Session → List ℕ → Session
+ending e k [] = k
+ending e k (size ∷ sizes) = ending e (called e true k (record { bytes = []; size = size })) sizes
+
+-- the input that the calls were given
+unfoldable pub joined : List Call → List ℕ
+joined [] = []
+joined (c ∷ cs) = c .bytes ++ joined cs
+
+-- each buffer has room for one line
+unfoldable pub Roomy : List ℕ → Type 0
+Roomy [] = Unit {0}
+Roomy (size ∷ sizes) = (lineRoom ≤ size) × Roomy sizes
+
+-- however an input is cut, and whatever buffers are lent: once all is done, what was written is the input's transcript
+pub record TranscriptLaw (e : Equipment) : Type 0 where
+  pub done : (cs : List Call) (sizes : List ℕ) → isDone (ending e (during e opened cs) sizes .state) ≡ true
+      → ending e (during e opened cs) sizes .text ≡ transcript e (joined cs)
+  -- all is done after as many calls with room for a line as there are bytes left, and one
+  pub ends : (cs : List Call) (sizes : List ℕ) → Roomy sizes → length (joined cs) < length sizes
+      → isDone (ending e (during e opened cs) sizes .state) ≡ true
+  -- before the input's end, what was written begins its transcript, whatever comes
+  pub begins : (cs : List Call) (more : List ℕ)
+      → transcript e (joined cs ++ more) ≡ during e opened cs .text ++ drop (length (during e opened cs .text)) (transcript e (joined cs ++ more))
+  -- all done before the input's end: nothing that comes would add to it
+  pub early : (cs : List Call) (more : List ℕ) → isDone (during e opened cs .state) ≡ true → transcript e (joined cs ++ more) ≡ during e opened cs .text

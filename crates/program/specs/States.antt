@@ -1,0 +1,35 @@
+-- Document 01, "Image and program": the program's state, where it begins, and how a lent one is read.
+-- Assumes nothing.
+use mathlib.Core.Bool.{Bool, true, false, cond, not, _&&_, _||_}
+use mathlib.Core.List.{[]}
+use Prim.Native.Nat.{ℕ, _+_}
+use lib.Dec.{leb, eqb}
+use Rattle.rules.specs.Records.{fresh}
+use Rattle.rules.specs.Sheets.{settingsOf}
+use Rattle.rules.specs.Transcripts.{inputEnd}
+use Rattle.program.specs.declared.State.{State}
+
+-- before the first byte
+unfoldable pub start : State
+start = record { phase = 0; line = 1; long = false; taken = 0; settings = settingsOf []; board = fresh }
+
+abbrev pub isDone : State → Bool
+isDone q = leb 2 (q .phase)
+
+abbrev pub readsSheet : State → Bool
+readsSheet q = eqb (q .phase) 0
+
+-- the state with n bytes more taken and all done
+abbrev pub stopped : State → ℕ → State
+stopped q n =
+    record { phase = 2; line = q .line; long = q .long; taken = q .taken + n; settings = q .settings; board = q .board }
+
+-- a state that some input could lead to: each line before this one took a byte, no more than the input's 10^12 bytes are taken, and
+-- a sheet has thirteen lines
+unfoldable pub sensible : State → Bool
+sensible q =
+    leb 1 (q .line) && (leb (q .line) (q .taken + 1) && (leb (q .taken) inputEnd && (not (readsSheet q) || leb (q .line) 13)))
+
+-- any other state is read as one where all is done
+unfoldable pub readState : State → State
+readState q = cond (sensible q) q (stopped q 0)
