@@ -1,2 +1,4 @@
 pub mod Framing
 pub mod Resuming
+pub mod Fitting
+pub mod Handling

@@ -22,7 +22,7 @@ readsSheet q = eqb (q .phase) 0
 -- the state with n bytes more taken and all done
 abbrev pub stopped : State → ℕ → State
 stopped q n =
-    record { phase = 2; line = q .line; long = q .long; taken = q .taken + n; settings = q .settings; board = q .board }
+    record { phase = 2; line = q .line; long = false; taken = q .taken + n; settings = q .settings; board = q .board }
 
 -- a state that some input could lead to: each line before this one took a byte, no more than the input's 10^12 bytes are taken, and
 -- a sheet has thirteen lines

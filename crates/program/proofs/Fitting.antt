@@ -1,0 +1,99 @@
+-- States that some input could lead to: lines and bytes are counted within the input's 10^12 bytes.
+-- Assumes nothing.
+use mathlib.Core.Path.{_≡_, refl, sym, ap, _∙_}
+use mathlib.Core.Bool.{Bool, true, false, cond, not, _&&_, _||_, false≢true}
+use mathlib.Core.List.{List}
+use Prim.Native.Nat.{ℕ, _+_, _-_, _≤_}
+use native.Mathlib.Omega.{arith}
+use lib.Dec.{leb, eqb}
+use lib.ListN.{length}
+use borrow.Author.Tests.{le-leb, leb-true, eq-eqb, ne-eqb, eqb-false}
+use Rattle.rules.specs.Samples.{Equipment}
+use Rattle.rules.specs.Transcripts.{inputEnd}
+use Rattle.rules.specs.declared.Settings.{Settings}
+use Rattle.rules.specs.declared.SettingsCheck.{SettingsCheck}
+use Rattle.text.specs.Forms.{formAt}
+use Rattle.sheet.specs.Storing.{onLine}
+use Rattle.program.specs.States.{isDone, readsSheet, stopped, sensible, readState}
+use Rattle.program.specs.Saying.{Said, numbersIn, phaseAfter, onCheck, sheetLine, sampleLine, said}
+use Rattle.program.specs.declared.State.{State}
+
+-- n bytes more may be taken
+pub record Fit (q : State) (n : ℕ) : Type 0 where
+  pub from-one : 1 ≤ q .line
+  pub low : q .line ≤ q .taken + 1
+  pub high : q .taken + n ≤ inputEnd
+  pub sheet : readsSheet q ≡ true → q .line ≤ 13
+
+pub fit-less : {q : State} {n : ℕ} (m : ℕ) → Fit q n → m ≤ n → Fit q m
+fit-less m f h = record { from-one = f .from-one; low = f .low; high = omega (arith, f .high); sheet = f .sheet }
+
+pub fit-stopped : {q : State} {n : ℕ} (m : ℕ) → Fit q n → m ≤ n → Fit (stopped q m) (n - m)
+fit-stopped m f h =
+    record { from-one = f .from-one; low = omega (arith, f .low); high = omega (arith, f .high); sheet = λ p. absurd (false≢true p) }
+
+-- ---- one line more
+
+fit-check : {q : State} {n : ℕ} (m : ℕ) (st : Settings) (c : SettingsCheck) → Fit q n → readsSheet q ≡ true → 1 ≤ m → m ≤ n → Fit (onCheck q m st c .state) (n - m)
+fit-check m st (SettingsCheck.Refused cause line) f p a b = fit-stopped m f b
+fit-check {q} m st SettingsCheck.Accepted f p a b =
+    record {
+      from-one = omega arith;
+      low = omega (arith, f .low);
+      high = omega (arith, f .high);
+      sheet = by (eqb (q .line) 13) refl;
+    }
+  where
+    by : (k : Bool) → eqb (q .line) 13 ≡ k → eqb (cond k 1 0) 0 ≡ true → q .line + 1 ≤ 13
+    by true e r = absurd (false≢true r)
+    by false e r =
+        let other : q .line ≡ 13 → ⊥ = eqb-false (q .line) 13 e in
+        let low = f .sheet p in omega arith
+
+pub fit-said : (e : Equipment) {q : State} {n : ℕ} (l : List ℕ) → isDone q ≡ false → Fit q n → length l + 1 ≤ n → Fit (said e q l .state) (n - (length l + 1))
+unfolding said
+fit-said e {q} {n} l p f h = rw p (by (readsSheet q) refl)
+  where
+    by : (b : Bool) → readsSheet q ≡ b → Fit (cond b (sheetLine q l) (sampleLine e q l) .state) (n - (length l + 1))
+    by true r =
+        let read = onLine (q .line - 1) (q .settings) (numbersIn (q .long) (formAt (q .line - 1)) l) in
+        fit-check (length l + 1) (read .settings) (read .check) f r (omega arith) h
+    by false r =
+        record { from-one = omega arith; low = omega (arith, f .low); high = omega (arith, f .high); sheet = λ k. absurd (false≢true k) }
+
+-- ---- the test
+
+and-true : (a b : Bool) → (a && b) ≡ true → (a ≡ true) × (b ≡ true)
+and-true true true e = (refl, refl)
+and-true true false e = absurd (false≢true e)
+and-true false b e = absurd (false≢true e)
+
+pub sensible-fit : (q : State) → sensible q ≡ true → Fit q 0
+unfolding sensible
+sensible-fit q e =
+    let a = and-true (leb 1 (q .line)) (leb (q .line) (q .taken + 1) && (leb (q .taken) inputEnd && (not (readsSheet q) || leb (q .line) 13))) e in
+    let b = and-true (leb (q .line) (q .taken + 1)) (leb (q .taken) inputEnd && (not (readsSheet q) || leb (q .line) 13)) (a .1) in
+    let c = and-true (leb (q .taken) inputEnd) (not (readsSheet q) || leb (q .line) 13) (b .1) in
+    record {
+      from-one = leb-true 1 (q .line) (a .0);
+      low = leb-true (q .line) (q .taken + 1) (b .0);
+      high = omega (arith, leb-true (q .taken) inputEnd (c .0));
+      sheet = λ p. leb-true (q .line) 13 (by (readsSheet q) p (c .1));
+    }
+  where
+    by : (k : Bool) → k ≡ true → (not k || leb (q .line) 13) ≡ true → leb (q .line) 13 ≡ true
+    by true p r = r
+    by false p r = absurd (false≢true p)
+
+pub fit-sensible : (q : State) (n : ℕ) → Fit q n → sensible q ≡ true
+unfolding sensible
+fit-sensible q n f =
+    rw (le-leb 1 (q .line) (f .from-one), le-leb (q .line) (q .taken + 1) (f .low), le-leb (q .taken) inputEnd (omega (arith, f .high))) (by (readsSheet q) (f .sheet))
+  where
+    by : (k : Bool) → (k ≡ true → q .line ≤ 13) → (not k || leb (q .line) 13) ≡ true
+    by true p = le-leb (q .line) 13 (p refl)
+    by false p = refl
+
+pub fit-read : (q : State) (n : ℕ) → Fit q n → readState q ≡ q
+unfolding readState
+fit-read q n f = rw (fit-sensible q n f)

@@ -1,0 +1,182 @@
+-- The lines of a block: what is said for them and what is left say together what was to be said from the state before.
+-- Assumes nothing.
+use mathlib.Core.Path.{_≡_, refl, sym, ap, ap₂, _∙_, subst}
+use mathlib.Core.Bool.{Bool, true, false, cond, _||_, false≢true}
+use mathlib.Core.List.{List, [], _∷_, _++_, append-assoc, append-nil}
+use Prim.Native.Nat.{ℕ, zero, suc, _+_, _-_, _≤_, _<_}
+use native.Mathlib.Omega.{arith}
+use lib.Dec.{ltb}
+use lib.ListN.{length, drop, length-drop}
+use lib.Seq.{drop-length, drop-drop}
+use Rattle.rules.specs.Samples.{Equipment}
+use Rattle.rules.specs.Text.{firstLine, hasFeed, afterLine}
+use Rattle.rules.specs.Transcripts.{Line, linesIn, lastLine}
+use Rattle.text.proofs.Lines.{line-after, line-ended}
+use Rattle.program.specs.States.{isDone, stopped}
+use Rattle.program.specs.Saying.{Said, said, endText, resume}
+use Rattle.program.specs.Responses.{longest, stops, andSaid, closed, dropped, atTail, handled}
+use Rattle.program.specs.declared.State.{State}
+use Rattle.program.proofs.Framing.{lines-fed, lines-unfed, feed-front, line-front, after-front}
+use Rattle.program.proofs.Resuming.{resume-fed, resume-unfed, done-resume, said-taken, droppedFrom, dropped-resume}
+use Rattle.program.proofs.Fitting.{Fit, fit-less, fit-stopped, fit-said}
+
+neither : (a b : Bool) → (a || b) ≡ false → (a ≡ false) × (b ≡ false)
+neither true b e = absurd (false≢true (sym e))
+neither false b e = (refl, e)
+
+drop-none : (t : ℕ) (s : List ℕ) → drop (t - t) s ≡ s
+drop-none t s = let z : t - t ≡ 0 = omega arith in rw z
+
+module _ (e : Equipment) (ends : Bool) (size : ℕ) where
+  pub handled-fed : (h : Said) (s : List ℕ) → hasFeed s ≡ true
+      → handled e ends size h (linesIn s) ≡ cond (stops size h) h (handled e ends size (andSaid h (said e (h .state) (firstLine s))) (linesIn (afterLine s)))
+  unfolding handled
+  handled-fed h s p = ap (handled e ends size h) (lines-fed s p)
+
+  pub handled-unfed : (h : Said) (s : List ℕ) → hasFeed s ≡ false → handled e ends size h (linesIn s) ≡ cond (stops size h) h (atTail ends h s)
+  unfolding handled
+  handled-unfed h [] p = ap (handled e ends size h) (lines-unfed [] p)
+  handled-unfed h (b ∷ s) p = ap (handled e ends size h) (lines-unfed (b ∷ s) p)
+
+  pub handled-stops : (h : Said) (ls : List Line) → stops size h ≡ true → handled e ends size h ls ≡ h
+  unfolding handled
+  handled-stops h [] p = rw p
+  handled-stops h (Rattle.rules.specs.Transcripts.Line.ended l ∷ ls) p = rw p
+  handled-stops h (Rattle.rules.specs.Transcripts.Line.unended l ∷ ls) p = rw p
+
+-- from h, with the bytes s of a block before it and `more` after the block, to k
+pub record Keeps (e : Equipment) (h : Said) (s more : List ℕ) (k : Said) : Type 0 where
+  pub low : h .state .taken ≤ k .state .taken
+  pub high : k .state .taken ≤ h .state .taken + length s
+  pub says : h .text ++ resume e (h .state) (s ++ more) ≡ k .text ++ resume e (k .state) (drop (k .state .taken - h .state .taken) s ++ more)
+
+stays : (e : Equipment) (h : Said) (s more : List ℕ) → Keeps e h s more h
+stays e h s more = record { low = omega arith; high = omega arith; says = rw (drop-none (h .state .taken) s) }
+
+-- ---- the bytes after the last line feed
+
+module _ (e : Equipment) (h : Said) (s more : List ℕ) (plain : hasFeed s ≡ false) where
+  keeps-closed : more ≡ [] → Keeps e h s more (closed h s)
+  keeps-closed none =
+      record {
+        low = omega arith;
+        high = omega arith;
+        says = rw (none, append-nil s, resume-unfed e (h .state) s plain, done-resume e (stopped (h .state) (length s)) _ refl) (sym (append-nil _));
+      }
+
+  keeps-dropped : (h .state .long || ltb longest (length s)) ≡ true → Keeps e h s more (dropped h s)
+  keeps-dropped long =
+      let all : h .state .taken + length s - h .state .taken ≡ length s = omega arith in
+      record {
+        low = omega arith;
+        high = omega arith;
+        says = rw (all, drop-length s) (ap (λ (t : List ℕ). h .text ++ t) (dropped-resume e (h .state) s (h .state .long) refl long more plain));
+      }
+
+  keeps-tail : (ends : Bool) → (ends ≡ true → more ≡ []) → Keeps e h s more (atTail ends h s)
+  keeps-tail true last = keeps-closed (last refl)
+  keeps-tail false last = by (h .state .long || ltb longest (length s)) refl
+    where
+      by : (b : Bool) → (h .state .long || ltb longest (length s)) ≡ b → Keeps e h s more (cond b (dropped h s) h)
+      by true p = keeps-dropped p
+      by false p = stays e h s more
+
+-- ---- a line more
+
+after-shorter : (s : List ℕ) → hasFeed s ≡ true → length (afterLine s) + (length (firstLine s) + 1) ≡ length s
+after-shorter s f = rw (line-after s f, length-drop (length (firstLine s) + 1) s) (omega (arith, line-ended s f))
+
+module _ (e : Equipment) (h : Said) (s more : List ℕ) (fed : hasFeed s ≡ true) (going : isDone (h .state) ≡ false) where
+  abbrev line : List ℕ
+  line = firstLine s
+
+  abbrev next : Said
+  next = andSaid h (said e (h .state) line)
+
+  next-taken : next .state .taken ≡ h .state .taken + (length line + 1)
+  next-taken = said-taken e (h .state) line going
+
+  after-is : afterLine s ≡ drop (length line + 1) s
+  after-is = line-after s fed
+
+  after-length : length (afterLine s) + (length line + 1) ≡ length s
+  after-length = after-shorter s fed
+
+  one-says : h .text ++ resume e (h .state) (s ++ more) ≡ next .text ++ resume e (next .state) (afterLine s ++ more)
+  one-says =
+      rw (resume-fed e (h .state) (s ++ more) (feed-front s more fed), line-front s more fed, after-front s more fed)
+      (sym (append-assoc (h .text) (said e (h .state) line .text) (resume e (next .state) (afterLine s ++ more))))
+
+  keeps-line : (k : Said) → Keeps e next (afterLine s) more k → Keeps e h s more k
+  keeps-line k r =
+      let n : length line + 1 + (k .state .taken - next .state .taken) ≡ k .state .taken - h .state .taken = omega (arith, next-taken, r .low) in
+      record {
+        low = omega (arith, next-taken, r .low);
+        high = omega (arith, next-taken, r .high, after-length);
+        says = one-says ∙ r .says ∙ ap (λ (t : List ℕ). k .text ++ resume e (k .state) (t ++ more)) (ap (drop (k .state .taken - next .state .taken)) after-is ∙ drop-drop _ (length line + 1) s ∙ ap (λ (m : ℕ). drop m s) n);
+      }
+
+-- ---- the whole block
+
+module _ (e : Equipment) (ends : Bool) (size : ℕ) (h : Said) (s more : List ℕ) (last : ends ≡ true → more ≡ []) where
+  keeps-end : hasFeed s ≡ false → (b : Bool) → stops size h ≡ b → Keeps e h s more (cond b h (atTail ends h s))
+  keeps-end f true p = stays e h s more
+  keeps-end f false p = keeps-tail e h s more f ends last
+
+  keeps-fed : (f : hasFeed s ≡ true) → (Keeps e (andSaid h (said e (h .state) (firstLine s))) (afterLine s) more (handled e ends size (andSaid h (said e (h .state) (firstLine s))) (linesIn (afterLine s))))
+      → (b : Bool) → stops size h ≡ b → Keeps e h s more (cond b h (handled e ends size (andSaid h (said e (h .state) (firstLine s))) (linesIn (afterLine s))))
+  keeps-fed f rest true p = stays e h s more
+  keeps-fed f rest false p = keeps-line e h s more f (neither _ _ p .0) _ rest
+
+  -- n is at least the length of s; `rest` is the claim for what follows a line of s
+  keeps-by : (b : Bool) → hasFeed s ≡ b
+      → (hasFeed s ≡ true → Keeps e (andSaid h (said e (h .state) (firstLine s))) (afterLine s) more (handled e ends size (andSaid h (said e (h .state) (firstLine s))) (linesIn (afterLine s))))
+      → Keeps e h s more (handled e ends size h (linesIn s))
+  keeps-by false f rest = rw (handled-unfed e ends size h s f) (keeps-end f (stops size h) refl)
+  keeps-by true f rest = rw (handled-fed e ends size h s f) (keeps-fed f (rest f) (stops size h) refl)
+
+  fit-end : (b : Bool) → Fit (h .state) (length s) → Fit (atTail b h s .state) 0
+  fit-end true f = fit-less 0 (fit-stopped (length s) f (omega arith)) (omega arith)
+  fit-end false f = by (h .state .long || ltb longest (length s))
+    where
+      by : (b : Bool) → Fit (cond b (dropped h s) h .state) 0
+      by true = record { from-one = f .from-one; low = omega (arith, f .low); high = omega (arith, f .high); sheet = f .sheet }
+      by false = fit-less 0 f (omega arith)
+
+keeps-within : (e : Equipment) (ends : Bool) (size n : ℕ) (h : Said) (s more : List ℕ) → length s ≤ n → (ends ≡ true → more ≡ [])
+    → Keeps e h s more (handled e ends size h (linesIn s))
+keeps-within e ends size zero h s more low last =
+    keeps-by e ends size h s more last (hasFeed s) refl (λ f. absurd (omega (arith, after-shorter s f)))
+keeps-within e ends size (suc n) h s more low last =
+    keeps-by e ends size h s more last (hasFeed s) refl
+    (λ f. keeps-within e ends size n (andSaid h (said e (h .state) (firstLine s))) (afterLine s) more (omega (arith, after-shorter s f)) last)
+
+pub keeps : (e : Equipment) (ends : Bool) (size : ℕ) (h : Said) (s more : List ℕ) → (ends ≡ true → more ≡ []) → Keeps e h s more (handled e ends size h (linesIn s))
+keeps e ends size h s more last = keeps-within e ends size (length s) h s more (omega arith) last
+
+-- ---- and it fits
+
+fits-by : (e : Equipment) (ends : Bool) (size : ℕ) (h : Said) (s : List ℕ) → Fit (h .state) (length s) → (b : Bool) → hasFeed s ≡ b
+    → (hasFeed s ≡ true → Fit (said e (h .state) (firstLine s) .state) (length (afterLine s)) → Fit (handled e ends size (andSaid h (said e (h .state) (firstLine s))) (linesIn (afterLine s)) .state) 0)
+    → Fit (handled e ends size h (linesIn s) .state) 0
+fits-by e ends size h s fit false f rest = rw (handled-unfed e ends size h s f) (by (stops size h))
+  where
+    by : (b : Bool) → Fit (cond b h (atTail ends h s) .state) 0
+    by true = fit-less 0 fit (omega arith)
+    by false = fit-end e ends size h s [] (λ p. refl) ends fit
+fits-by e ends size h s fit true f rest = rw (handled-fed e ends size h s f) (by (stops size h) refl)
+  where
+    by : (b : Bool) → stops size h ≡ b → Fit (cond b h (handled e ends size (andSaid h (said e (h .state) (firstLine s))) (linesIn (afterLine s))) .state) 0
+    by true p = fit-less 0 fit (omega arith)
+    by false p =
+        let n : length s - (length (firstLine s) + 1) ≡ length (afterLine s) = omega (arith, after-shorter s f) in
+        rest f (subst (Fit (said e (h .state) (firstLine s) .state)) n (fit-said e (firstLine s) (neither _ _ p .0) fit (omega (arith, after-shorter s f))))
+
+fits-within : (e : Equipment) (ends : Bool) (size n : ℕ) (h : Said) (s : List ℕ) → length s ≤ n → Fit (h .state) (length s) → Fit (handled e ends size h (linesIn s) .state) 0
+fits-within e ends size zero h s low fit = fits-by e ends size h s fit (hasFeed s) refl (λ f p. absurd (omega (arith, after-shorter s f)))
+fits-within e ends size (suc n) h s low fit =
+    fits-by e ends size h s fit (hasFeed s) refl
+    (λ f p. fits-within e ends size n (andSaid h (said e (h .state) (firstLine s))) (afterLine s) (omega (arith, after-shorter s f)) p)
+
+pub fits : (e : Equipment) (ends : Bool) (size : ℕ) (h : Said) (s : List ℕ) → Fit (h .state) (length s) → Fit (handled e ends size h (linesIn s) .state) 0
+fits e ends size h s fit = fits-within e ends size (length s) h s (omega arith) fit
