@@ -83,7 +83,7 @@ module _ (e : Equipment) (h : Said) (s more : List ℕ) (plain : hasFeed s ≡ f
 
 -- ---- a line more
 
-after-shorter : (s : List ℕ) → hasFeed s ≡ true → length (afterLine s) + (length (firstLine s) + 1) ≡ length s
+pub after-shorter : (s : List ℕ) → hasFeed s ≡ true → length (afterLine s) + (length (firstLine s) + 1) ≡ length s
 after-shorter s f = rw (line-after s f, length-drop (length (firstLine s) + 1) s) (omega (arith, line-ended s f))
 
 module _ (e : Equipment) (h : Said) (s more : List ℕ) (fed : hasFeed s ≡ true) (going : isDone (h .state) ≡ false) where

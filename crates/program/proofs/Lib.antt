@@ -2,3 +2,4 @@ pub mod Framing
 pub mod Resuming
 pub mod Fitting
 pub mod Handling
+pub mod Transcripts

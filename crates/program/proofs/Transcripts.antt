@@ -1,0 +1,190 @@
+-- From the start, what is written for the lines of an input is the input's transcript.
+-- Assumes nothing.
+use mathlib.Core.Path.{_≡_, refl, sym, ap, ap₂, _∙_, subst}
+use mathlib.Core.Bool.{Bool, true, false, cond}
+use mathlib.Core.List.{List, [], _∷_, _++_, append-nil}
+use mathlib.Core.Option.{Option, none, some}
+use Prim.Native.Nat.{ℕ, zero, suc, _+_, _-_, _≤_, _<_}
+use native.Mathlib.Decide.{decLt}
+use native.Mathlib.Numerals.{add-one}
+use native.Mathlib.Omega.{arith}
+use borrow.Author.Tests.{eq-eqb, ne-eqb}
+use lib.Dec.{eqb}
+use lib.ListN.{length, length-append, drop}
+use lib.Seq.{drop-drop}
+use Rattle.rules.specs.Settings.{Pair}
+use Rattle.rules.specs.Samples.{Equipment}
+use Rattle.rules.specs.Text.{firstLine, hasFeed, afterLine}
+use Rattle.rules.specs.Forms.{numbersOf, sampleForm}
+use Rattle.rules.specs.Records.{fresh}
+use Rattle.rules.specs.Sheets.{SheetReading, settingsOf, refusedAt, readSheet}
+use Rattle.rules.specs.Transcripts.{Line, ended, unended, linesIn, lastLine, lineStep, onSampleNumbers, answerLine, answersFrom, refusedLine, onSheet, transcriptOf}
+use Rattle.rules.specs.declared.Settings.{Settings}
+use Rattle.rules.specs.declared.Board.{Board}
+use Rattle.rules.specs.declared.Refusal.{Refusal}
+use Rattle.rules.specs.declared.Refusal.the-variants.{Form, Sample}
+use Rattle.rules.specs.declared.SettingsCheck.{SettingsCheck}
+use Rattle.rules.specs.declared.Stepped.{Stepped}
+use Rattle.text.specs.Forms.{formAt}
+use Rattle.text.proofs.Lines.{line-after, line-ended}
+use Rattle.sheet.specs.Storing.{onLine, lineRead}
+use Rattle.sheet.specs.declared.LineRead.{LineRead}
+use Rattle.sheet.proofs.Reading.{from, from-unended, from-end, Gone, on-accepted, on-refused}
+use Rattle.program.specs.States.{start, isDone, stopped}
+use Rattle.program.specs.Saying.{Said, onRead, onCheck, phaseAfter, said, sheetLine, sampleLine, endText, resume}
+use Rattle.program.specs.declared.State.{State}
+use Rattle.program.proofs.Framing.{lines-fed, lines-unfed}
+use Rattle.program.proofs.Resuming.{resume-fed, resume-unfed, done-resume}
+use Rattle.program.proofs.Handling.{after-shorter}
+
+-- ---- the samples
+
+abbrev pub sampling : Settings → Board → ℕ → ℕ → State
+sampling st b n t = record { phase = 1; line = n; long = false; taken = t; settings = st; board = b }
+
+module _ (e : Equipment) (st : Settings) (b : Board) (n t : ℕ) (s : List ℕ) where
+  abbrev answered : Stepped
+  answered = onSampleNumbers e st b (numbersOf sampleForm (firstLine s))
+
+  said-sample : said e (sampling st b n t) (firstLine s)
+      ≡ record { state = sampling st (answered .board) (n + 1) (t + (length (firstLine s) + 1)); text = answerLine n (answered .answer) }
+  unfolding said
+  said-sample = refl
+
+  sample-fed : hasFeed s ≡ true → resume e (sampling st (answered .board) (n + 1) (t + (length (firstLine s) + 1))) (afterLine s) ≡ answersFrom e st (answered .board) (n + 1) (linesIn (afterLine s))
+      → resume e (sampling st b n t) s ≡ answersFrom e st b n (linesIn s)
+  unfolding answersFrom lineStep
+  sample-fed f rest =
+      resume-fed e (sampling st b n t) s f ∙ rw (said-sample, lines-fed s f, rest, add-one n)
+
+  sample-unfed : hasFeed s ≡ false → resume e (sampling st b n t) s ≡ answersFrom e st b n (linesIn s)
+  unfolding endText answersFrom lineStep
+  sample-unfed f = resume-unfed e (sampling st b n t) s f ∙ by s ∙ sym (ap (answersFrom e st b n) (lines-unfed s f))
+    where
+      by : (l : List ℕ) → endText (sampling st b n t) l ≡ answersFrom e st b n (lastLine l)
+      by [] = refl
+      by (c ∷ l) = sym (append-nil _)
+
+samples-within : (e : Equipment) (st : Settings) (k : ℕ) (b : Board) (n t : ℕ) (s : List ℕ) → length s ≤ k → resume e (sampling st b n t) s ≡ answersFrom e st b n (linesIn s)
+samples-within e st zero b n t s low = by (hasFeed s) refl
+  where
+    by : (f : Bool) → hasFeed s ≡ f → resume e (sampling st b n t) s ≡ answersFrom e st b n (linesIn s)
+    by true p = absurd (omega (arith, after-shorter s p))
+    by false p = sample-unfed e st b n t s p
+samples-within e st (suc k) b n t s low =
+    by (hasFeed s) refl (λ p. samples-within e st k (answered e st b n t s .board) (n + 1) (t + (length (firstLine s) + 1)) (afterLine s) (omega (arith, after-shorter s p)))
+  where
+    by : (f : Bool) → hasFeed s ≡ f → (hasFeed s ≡ true → resume e (sampling st (answered e st b n t s .board) (n + 1) (t + (length (firstLine s) + 1))) (afterLine s) ≡ answersFrom e st (answered e st b n t s .board) (n + 1) (linesIn (afterLine s))) → resume e (sampling st b n t) s ≡ answersFrom e st b n (linesIn s)
+    by true p rest = sample-fed e st b n t s p (rest p)
+    by false p rest = sample-unfed e st b n t s p
+
+-- ---- the sheet
+
+-- i lines are read, and the next begins at a place
+abbrev pub reading : Settings → ℕ → ℕ → State
+reading st i at = record { phase = 0; line = i + 1; long = false; taken = at; settings = st; board = fresh }
+
+abbrev to-the-end : Equipment → List ℕ → SheetReading → List ℕ
+to-the-end e s r = onSheet e r (r .check) s
+
+module _ (e : Equipment) (s : List ℕ) (i at : ℕ) (lines : List (List Pair)) (h : i < 13) (long : length lines ≡ i) where
+  abbrev line : List ℕ
+  line = firstLine (drop at s)
+
+  abbrev read : LineRead
+  read = lineRead i line (settingsOf lines)
+
+  abbrev past : ℕ
+  past = at + length line + 1
+
+  said-read : said e (reading (settingsOf lines) i at) line ≡ onRead (reading (settingsOf lines) i at) (length line + 1) read
+  unfolding said lineRead
+  said-read =
+      let same : i + 1 - 1 ≡ i = omega arith in rw same
+
+  unended-text : hasFeed (drop at s) ≡ false → resume e (reading (settingsOf lines) i at) (drop at s) ≡ to-the-end e s (from s i at lines)
+  unfolding endText
+  unended-text f = resume-unfed e (reading (settingsOf lines) i at) (drop at s) f ∙ by ∙ sym (ap (to-the-end e s) (from-unended s i at lines h f))
+    where
+      by : endText (reading (settingsOf lines) i at) (drop at s) ≡ refusedLine Form (i + 1)
+      by = refl
+
+  module _ (f : hasFeed (drop at s) ≡ true) where
+    after-is : afterLine (drop at s) ≡ drop past s
+    after-is =
+        let same : at + (length line + 1) ≡ past = omega arith in
+        line-after (drop at s) f ∙ drop-drop (length line + 1) at s ∙ ap (λ (n : ℕ). drop n s) same
+
+    -- what is said for the line, and then for the rest
+    then : (r : Said) → onRead (reading (settingsOf lines) i at) (length line + 1) read ≡ r
+        → resume e (reading (settingsOf lines) i at) (drop at s) ≡ r .text ++ resume e (r .state) (drop past s)
+    then r p = resume-fed e (reading (settingsOf lines) i at) (drop at s) f ∙ rw (said-read, p, after-is)
+
+    refused-text : (cause : Refusal) (n : ℕ) → read .check ≡ SettingsCheck.Refused cause n → resume e (reading (settingsOf lines) i at) (drop at s) ≡ to-the-end e s (from s i at lines)
+    refused-text cause n c =
+        let r = on-refused s i at lines h f long read refl cause n c in
+        let q = reading (settingsOf lines) i at in
+        let closes : refusedLine cause n ++ resume e (stopped q (length line + 1)) (drop past s) ≡ refusedLine cause (i + 1)
+        = rw (done-resume e (stopped q (length line + 1)) (drop past s) refl) (append-nil _ ∙ ap (refusedLine cause) (r .1)) in
+        then (onCheck q (length line + 1) (read .settings) (SettingsCheck.Refused cause n)) (ap (onCheck q (length line + 1) (read .settings)) c)
+        ∙ closes
+        ∙ sym (ap (to-the-end e s) (r .0))
+
+    -- the state after an accepted line
+    abbrev onward : Settings → State
+    onward st = record { phase = phaseAfter (i + 1); line = i + 1 + 1; long = false; taken = past; settings = st; board = fresh }
+
+    abbrev Rest : Type 0
+    Rest = (more : List (List Pair)) → length more ≡ i + 1 → resume e (onward (settingsOf more)) (drop past s) ≡ to-the-end e s (from s (i + 1) past more)
+
+    accepted-by : read .check ≡ SettingsCheck.Accepted → Rest → (more : List (List Pair)) → length more ≡ i + 1 → read .settings ≡ settingsOf more → from s i at lines ≡ from s (i + 1) past more
+        → resume e (reading (settingsOf lines) i at) (drop at s) ≡ to-the-end e s (from s i at lines)
+    accepted-by c rest more l st is =
+        let same : at + (length line + 1) ≡ past = omega arith in
+        let q = reading (settingsOf lines) i at in
+        let onto : onCheck q (length line + 1) (read .settings) (read .check) ≡ record { state = onward (settingsOf more); text = [] } = rw (c, st, same) in
+        then (record { state = onward (settingsOf more); text = [] }) onto ∙ rest more l ∙ sym (ap (to-the-end e s) is)
+
+    accepted-text : read .check ≡ SettingsCheck.Accepted → Rest → resume e (reading (settingsOf lines) i at) (drop at s) ≡ to-the-end e s (from s i at lines)
+    accepted-text c rest =
+        let g = on-accepted s i at lines h f long read refl c in
+        accepted-by c rest (lines ++ (g .read ∷ [])) (length-append lines (g .read ∷ []) ∙ ap (λ (n : ℕ). n + 1) long) (g .settings) (g .reading)
+
+    -- the line's two outcomes
+    by-check : Rest → (c : SettingsCheck) → read .check ≡ c → resume e (reading (settingsOf lines) i at) (drop at s) ≡ to-the-end e s (from s i at lines)
+    by-check rest SettingsCheck.Accepted c = accepted-text c rest
+    by-check rest (SettingsCheck.Refused cause n) c = refused-text cause n c
+
+-- past the thirteenth line
+sheet-done : (e : Equipment) (s : List ℕ) (at : ℕ) (lines : List (List Pair)) (i : ℕ) → i ≡ 13
+    → resume e (record { phase = 1; line = i + 1; long = false; taken = at; settings = settingsOf lines; board = fresh }) (drop at s) ≡ to-the-end e s (from s i at lines)
+sheet-done e s at lines i is =
+    samples-within e (settingsOf lines) (length (drop at s)) fresh (i + 1) at (drop at s) (omega arith)
+    ∙ rw is refl
+    ∙ sym (ap (to-the-end e s) (from-end s i at lines (omega arith)))
+
+sheet-within : (e : Equipment) (k : ℕ) (s : List ℕ) (i at : ℕ) (lines : List (List Pair)) → i + suc k ≡ 13 → length lines ≡ i
+    → resume e (reading (settingsOf lines) i at) (drop at s) ≡ to-the-end e s (from s i at lines)
+sheet-within e zero s i at lines is long = by (hasFeed (drop at s)) refl
+  where
+    by : (b : Bool) → hasFeed (drop at s) ≡ b → resume e (reading (settingsOf lines) i at) (drop at s) ≡ to-the-end e s (from s i at lines)
+    by false f = unended-text e s i at lines (omega arith) long f
+    by true f =
+        by-check e s i at lines (omega arith) long f
+        (λ more l. rw (eq-eqb (i + 1) 13 (omega arith)) (sheet-done e s (past e s i at lines (omega arith) long) more (i + 1) (omega arith)))
+        (lineRead i (firstLine (drop at s)) (settingsOf lines) .check) refl
+sheet-within e (suc k) s i at lines is long =
+    by (hasFeed (drop at s)) refl (λ more l. sheet-within e k s (i + 1) (at + length (firstLine (drop at s)) + 1) more (omega arith) l)
+  where
+    by : (b : Bool) → hasFeed (drop at s) ≡ b
+        → ((more : List (List Pair)) → length more ≡ i + 1 → resume e (reading (settingsOf more) (i + 1) (at + length (firstLine (drop at s)) + 1)) (drop (at + length (firstLine (drop at s)) + 1) s) ≡ to-the-end e s (from s (i + 1) (at + length (firstLine (drop at s)) + 1) more))
+        → resume e (reading (settingsOf lines) i at) (drop at s) ≡ to-the-end e s (from s i at lines)
+    by false f rest = unended-text e s i at lines (omega arith) long f
+    by true f rest =
+        by-check e s i at lines (omega arith) long f
+        (λ more l. rw (ne-eqb (i + 1) 13 (λ z. omega arith)) (rest more l))
+        (lineRead i (firstLine (drop at s)) (settingsOf lines) .check) refl
+
+pub resume-start : (e : Equipment) (s : List ℕ) → resume e start s ≡ transcriptOf e s
+unfolding start transcriptOf readSheet
+resume-start e s = sheet-within e 12 s 0 0 [] (omega arith) refl
