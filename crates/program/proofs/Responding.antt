@@ -24,10 +24,10 @@ use Rattle.program.proofs.Handling.{Keeps, keeps, fits, handled-fed, ha
 
 module _ (e : Equipment) (q : State) (block : List ℕ) (last : Bool) (size : ℕ) (fit : Fit q 0) where
   -- the bytes of the block that are the input's, and whether it ends with them
-  abbrev s : List ℕ
+  abbrev pub s : List ℕ
   s = take (budget q) block
 
-  abbrev ends : Bool
+  abbrev pub ends : Bool
   ends = last || leb (budget q) (length block)
 
   abbrev begun : Said

@@ -1,0 +1,147 @@
+-- The transcript law, for any equipment.
+-- Assumes nothing.
+use mathlib.Core.Path.{_≡_, refl, sym, ap, ap₂, _∙_, subst}
+use mathlib.Core.Bool.{Bool, true, false, cond, _||_, false≢true}
+use mathlib.Core.List.{List, [], _∷_, _++_, append-assoc, append-nil}
+use Prim.Native.Nat.{ℕ, zero, suc, _+_, _-_, _≤_, _<_}
+use native.Mathlib.Omega.{arith}
+use lib.ListN.{length, take, drop, length-append, length-drop}
+use lib.Seq.{drop-append-seam}
+use Rattle.rules.specs.Samples.{Equipment}
+use Rattle.rules.specs.Text.{hasFeed, firstLine}
+use Rattle.rules.specs.Transcripts.{inputEnd, transcriptOf, transcript}
+use Rattle.program.specs.States.{start, isDone}
+use Rattle.program.specs.Saying.{resume}
+use Rattle.program.specs.Responses.{budget, respondOf}
+use Rattle.program.specs.Sessions.{Session, Call, opened, called, during, ending, joined, Roomy, TranscriptLaw}
+use Rattle.program.proofs.Fitting.{Fit}
+use Rattle.program.proofs.Resuming.{done-resume}
+use Rattle.program.proofs.Transcripts.{resume-start}
+use Rattle.program.proofs.Responding.{s, ends, fit-after, says, taken-low, taken-high, done-stays, line-taken, tail-closed}
+
+module _ (e : Equipment) where
+  -- what is to be said of the input that is left
+  abbrev still : Session → List ℕ → List ℕ
+  still k more = resume e (k .state) (take (budget (k .state)) (k .left ++ more))
+
+  -- after some calls that were given `input`
+  record Good (k : Session) (input : List ℕ) : Type 0 where
+    pub fit : Fit (k .state) 0
+    pub short : length (k .left) ≤ length input
+    pub says : (more : List ℕ) → transcript e (input ++ more) ≡ k .text ++ still k more
+
+  good-opened : Good opened []
+  unfolding start transcript
+  good-opened =
+      record {
+        fit = record { from-one = omega arith; low = omega arith; high = omega arith; sheet = λ p. omega arith };
+        short = omega arith;
+        says = λ more. sym (resume-start e (take inputEnd more));
+      }
+
+  module _ (k : Session) (c : Call) (last : Bool) where
+    abbrev block : List ℕ
+    block = k .left ++ c .bytes
+
+    left-length : length (called e last k c .left) ≤ length (k .left) + length (c .bytes)
+    left-length = omega (arith, length-drop (called e last k c .state .taken - k .state .taken) block, length-append (k .left) (c .bytes))
+
+    -- a call says what was to be said of what it took
+    call-says : Fit (k .state) 0 → (more : List ℕ) → (last ≡ true → more ≡ []) → k .text ++ still k (c .bytes ++ more) ≡ called e last k c .text ++ still (called e last k c) more
+    call-says fit more none-more =
+        ap (λ (l : List ℕ). k .text ++ resume e (k .state) (take (budget (k .state)) l)) (sym (append-assoc (k .left) (c .bytes) more))
+        ∙ ap (λ (l : List ℕ). k .text ++ l) (says e (k .state) block last (c .size) fit more none-more)
+        ∙ sym (append-assoc (k .text) (respondOf e (k .state) block last (c .size) .text) (still (called e last k c) more))
+
+  good-called : (k : Session) (input : List ℕ) (c : Call) → Good k input → Good (called e false k c) (input ++ c .bytes)
+  good-called k input c g =
+      record {
+        fit = fit-after e (k .state) (k .left ++ c .bytes) false (c .size) (g .fit);
+        short = omega (arith, left-length k c false, g .short, length-append input (c .bytes));
+        says = λ more. ap (transcript e) (append-assoc input (c .bytes) more) ∙ g .says (c .bytes ++ more) ∙ call-says k c false (g .fit) more (λ p. absurd (false≢true p));
+      }
+
+  good-during : (k : Session) (input : List ℕ) (cs : List Call) → Good k input → Good (during e k cs) (input ++ joined cs)
+  unfolding during joined
+  good-during k input [] g = subst (Good k) (sym (append-nil input)) g
+  good-during k input (c ∷ cs) g =
+      subst (Good (during e (called e false k c) cs)) (append-assoc input (c .bytes) (joined cs)) (good-during (called e false k c) (input ++ c .bytes) cs (good-called k input c g))
+
+  -- ---- once the input has ended
+
+  record Ended (k : Session) (input : List ℕ) : Type 0 where
+    pub fit : Fit (k .state) 0
+    pub says : transcript e input ≡ k .text ++ still k []
+
+  good-ended : (k : Session) (input : List ℕ) → Good k input → Ended k input
+  good-ended k input g = record { fit = g .fit; says = ap (transcript e) (sym (append-nil input)) ∙ g .says [] }
+
+  abbrev closing : ℕ → Call
+  closing size = record { bytes = []; size = size }
+
+  ended-called : (k : Session) (input : List ℕ) (size : ℕ) → Ended k input → Ended (called e true k (closing size)) input
+  ended-called k input size g =
+      record {
+        fit = fit-after e (k .state) (k .left ++ []) true size (g .fit);
+        says = g .says ∙ call-says k (closing size) true (g .fit) [] (λ p. refl);
+      }
+
+  ended-ending : (k : Session) (input : List ℕ) (sizes : List ℕ) → Ended k input → Ended (ending e k sizes) input
+  unfolding ending
+  ended-ending k input [] g = g
+  ended-ending k input (size ∷ sizes) g = ended-ending (called e true k (closing size)) input sizes (ended-called k input size g)
+
+  -- ---- enough calls
+
+  -- a call that leaves something to do leaves fewer bytes
+  fewer : (k : Session) (size : ℕ) → Fit (k .state) 0 → 128 ≤ size → isDone (called e true k (closing size) .state) ≡ false
+      → length (called e true k (closing size) .left) < length (k .left)
+  fewer k size fit roomy going = by (isDone (k .state)) refl (hasFeed (s e (k .state) (k .left ++ []) true size fit)) refl
+    where
+      by : (b : Bool) → isDone (k .state) ≡ b → (f : Bool) → hasFeed (s e (k .state) (k .left ++ []) true size fit) ≡ f
+          → length (called e true k (closing size) .left) < length (k .left)
+      by true p f r =
+          absurd (false≢true (sym going ∙ ap (λ h. isDone (h .state)) (done-stays e (k .state) (k .left ++ []) true size fit p) ∙ p))
+      by false p false r = absurd (false≢true (sym going ∙ tail-closed e (k .state) (k .left ++ []) true size fit p roomy r refl))
+      by false p true r =
+          omega (arith, line-taken e (k .state) (k .left ++ []) true size fit p roomy r, taken-high e (k .state) (k .left ++ []) true size fit [] (λ p. refl), length-drop (called e true k (closing size) .state .taken - k .state .taken) (k .left ++ []), length-append (k .left) [])
+
+  stays-done : (k : Session) (sizes : List ℕ) → Fit (k .state) 0 → isDone (k .state) ≡ true → isDone (ending e k sizes .state) ≡ true
+  unfolding ending
+  stays-done k [] fit p = p
+  stays-done k (size ∷ sizes) fit p =
+      stays-done (called e true k (closing size)) sizes (fit-after e (k .state) (k .left ++ []) true size fit)
+      (ap (λ h. isDone (h .state)) (done-stays e (k .state) (k .left ++ []) true size fit p) ∙ p)
+
+  all-done : (k : Session) (sizes : List ℕ) → Fit (k .state) 0 → Roomy sizes → length (k .left) < length sizes → isDone (ending e k sizes .state) ≡ true
+  unfolding ending Roomy
+  all-done k [] fit r h = absurd (omega arith)
+  all-done k (size ∷ sizes) fit r h =
+      by (isDone (called e true k (closing size) .state)) refl
+      (λ p. all-done (called e true k (closing size)) sizes (fit-after e (k .state) (k .left ++ []) true size fit) (r .1) (omega (arith, fewer k size fit (r .0) p)))
+    where
+      by : (b : Bool) → isDone (called e true k (closing size) .state) ≡ b
+          → (isDone (called e true k (closing size) .state) ≡ false → isDone (ending e (called e true k (closing size)) sizes .state) ≡ true)
+          → isDone (ending e (called e true k (closing size)) sizes .state) ≡ true
+      by true p rest = stays-done (called e true k (closing size)) sizes (fit-after e (k .state) (k .left ++ []) true size fit) p
+      by false p rest = rest p
+
+  -- ---- the law
+
+  abbrev after : List Call → Session
+  after cs = during e opened cs
+
+  good : (cs : List Call) → Good (after cs) (joined cs)
+  good cs = good-during opened [] cs good-opened
+
+  nothing-more : (k : Session) (more : List ℕ) → isDone (k .state) ≡ true → k .text ++ still k more ≡ k .text
+  nothing-more k more p = rw (done-resume e (k .state) (take (budget (k .state)) (k .left ++ more)) p) (append-nil (k .text))
+
+  pub transcript-law : TranscriptLaw e
+  transcript-law =
+      record {
+        done = λ cs sizes p. sym ((ended-ending (after cs) (joined cs) sizes (good-ended (after cs) (joined cs) (good cs))) .says ∙ nothing-more (ending e (after cs) sizes) [] p);
+        ends = λ cs sizes r h. all-done (after cs) sizes (good cs .fit) r (omega (arith, good cs .short));
+        begins = λ cs more. good cs .says more ∙ ap (λ (l : List ℕ). after cs .text ++ l) (sym (ap (drop (length (after cs .text))) (good cs .says more) ∙ drop-append-seam (after cs .text) (still (after cs) more)));
+        early = λ cs more p. good cs .says more ∙ nothing-more (after cs) more p;
+      }
