@@ -20,6 +20,8 @@ use form::match_at;
 use table::form_bytes;
 use table::form_starts;
 
+pub use table::sample_form;
+
 // The place of the first line feed from a place on, or the end.
 pub fn line_end(s: &[u8], from: usize) -> usize
     ensures { λ r. ⌜ r ≡ from + length (firstLine (drop from (now (s .entry)))) ⌝ }
@@ -117,12 +119,12 @@ pub struct SampleAt {
     pub slice: [u32; 7],
 }
 
-// The sample line at a place of a text, in one pass over its bytes.
-pub fn sample_at(s: &[u8], at: usize) -> SampleAt
-    requires { ⌜ at ≤ length (now s) ⌝ }
+// The sample line at a place of a text, in one pass over its bytes. Its form is lent, so that it is made once for many lines.
+pub fn sample_at(form: &[u8], s: &[u8], at: usize) -> SampleAt
+    requires { ⌜ (now form ≡ sampleForm) × (at ≤ length (now s)) ⌝ }
     ensures { λ r. ⌜ r ≡ sampleAt (now (s .entry)) at ⌝ }
 {
-    let m = form_at(13, s, at);
+    let m = match_at(form, s, at);
     let next = m.next;
     let n = m.n;
     if m.found {

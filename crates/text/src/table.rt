@@ -1,6 +1,7 @@
 // Document 01, "The sheet" and "Image and program": the forms of the sheet's thirteen lines and of the sample line. `#` stands
 // for a number, `~` for one that may have a minus, any other byte for itself.
 ghost use mathlib.Core.Path.{_≡_};
+ghost use Rattle.rules.specs.Forms.{sampleForm};
 ghost use Rattle.text.specs.Forms.{forms, joined, startsFrom};
 
 const FORMS: [u8; 251] = *b"\
@@ -50,4 +51,11 @@ pub fn form_starts() -> [usize; 15]
     ensures { λ r. ⌜ r ≡ startsFrom 0 forms ⌝ }
 {
     STARTS
+}
+
+// The sample line's form, to be made once and lent.
+pub fn sample_form() -> [u8; 20]
+    ensures { λ r. ⌜ r ≡ sampleForm ⌝ }
+{
+    *b"(at (# # #) # # # #)"
 }
