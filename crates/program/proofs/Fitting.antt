@@ -14,16 +14,9 @@ use Rattle.rules.specs.declared.Settings.{Settings}
 use Rattle.rules.specs.declared.SettingsCheck.{SettingsCheck}
 use Rattle.text.specs.Forms.{formAt}
 use Rattle.sheet.specs.Storing.{onLine}
-use Rattle.program.specs.States.{isDone, readsSheet, stopped, sensible, readState}
+use Rattle.program.specs.States.{isDone, readsSheet, stopped, sensible, readState, Fit}
 use Rattle.program.specs.Saying.{Said, numbersIn, phaseAfter, onCheck, sheetLine, sampleLine, said}
 use Rattle.program.specs.declared.State.{State}
-
--- n bytes more may be taken
-pub record Fit (q : State) (n : ℕ) : Type 0 where
-  pub from-one : 1 ≤ q .line
-  pub low : q .line ≤ q .taken + 1
-  pub high : q .taken + n ≤ inputEnd
-  pub sheet : readsSheet q ≡ true → q .line ≤ 13
 
 pub fit-less : {q : State} {n : ℕ} (m : ℕ) → Fit q n → m ≤ n → Fit q m
 fit-less m f h = record { from-one = f .from-one; low = f .low; high = omega (arith, f .high); sheet = f .sheet }
@@ -71,13 +64,13 @@ and-true false b e = absurd (false≢true e)
 pub sensible-fit : (q : State) → sensible q ≡ true → Fit q 0
 unfolding sensible
 sensible-fit q e =
-    let a = and-true (leb 1 (q .line)) (leb (q .line) (q .taken + 1) && (leb (q .taken) inputEnd && (not (readsSheet q) || leb (q .line) 13))) e in
-    let b = and-true (leb (q .line) (q .taken + 1)) (leb (q .taken) inputEnd && (not (readsSheet q) || leb (q .line) 13)) (a .1) in
-    let c = and-true (leb (q .taken) inputEnd) (not (readsSheet q) || leb (q .line) 13) (b .1) in
+    let a = and-true (leb 1 (q .line)) (leb (q .taken) inputEnd && (leb (q .line) (q .taken + 1) && (not (readsSheet q) || leb (q .line) 13))) e in
+    let b = and-true (leb (q .taken) inputEnd) (leb (q .line) (q .taken + 1) && (not (readsSheet q) || leb (q .line) 13)) (a .1) in
+    let c = and-true (leb (q .line) (q .taken + 1)) (not (readsSheet q) || leb (q .line) 13) (b .1) in
     record {
       from-one = leb-true 1 (q .line) (a .0);
-      low = leb-true (q .line) (q .taken + 1) (b .0);
-      high = omega (arith, leb-true (q .taken) inputEnd (c .0));
+      low = leb-true (q .line) (q .taken + 1) (c .0);
+      high = omega (arith, leb-true (q .taken) inputEnd (b .0));
       sheet = λ p. leb-true (q .line) 13 (by (readsSheet q) p (c .1));
     }
   where

@@ -12,13 +12,13 @@ use Rattle.rules.specs.Samples.{Equipment}
 use Rattle.rules.specs.Text.{firstLine, hasFeed, afterLine}
 use Rattle.rules.specs.Transcripts.{Line, linesIn, lastLine}
 use Rattle.text.proofs.Lines.{line-after, line-ended}
-use Rattle.program.specs.States.{isDone, stopped}
+use Rattle.program.specs.States.{Fit, isDone, stopped}
 use Rattle.program.specs.Saying.{Said, said, endText, resume}
 use Rattle.program.specs.Responses.{longest, stops, andSaid, closed, dropped, atTail, handled}
 use Rattle.program.specs.declared.State.{State}
 use Rattle.program.proofs.Framing.{lines-fed, lines-unfed, feed-front, line-front, after-front}
 use Rattle.program.proofs.Resuming.{resume-fed, resume-unfed, done-resume, said-taken, droppedFrom, dropped-resume}
-use Rattle.program.proofs.Fitting.{Fit, fit-less, fit-stopped, fit-said}
+use Rattle.program.proofs.Fitting.{fit-less, fit-stopped, fit-said}
 
 neither : (a b : Bool) → (a || b) ≡ false → (a ≡ false) × (b ≡ false)
 neither true b e = absurd (false≢true (sym e))

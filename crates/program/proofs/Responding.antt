@@ -13,12 +13,12 @@ use lib.Seq.{take-nil}
 use Rattle.rules.specs.Samples.{Equipment}
 use Rattle.rules.specs.Text.{firstLine, hasFeed, afterLine}
 use Rattle.rules.specs.Transcripts.{linesIn, inputEnd}
-use Rattle.program.specs.States.{isDone, stopped, readState}
+use Rattle.program.specs.States.{Fit, isDone, stopped, readState}
 use Rattle.program.specs.Saying.{Said, said, resume}
 use Rattle.program.specs.Responses.{lineRoom, stops, andSaid, closed, handled, budget, respondOf}
 use Rattle.program.specs.declared.State.{State}
 use Rattle.program.proofs.Cuts.{take-both, rest-cut}
-use Rattle.program.proofs.Fitting.{Fit, fit-less, fit-read}
+use Rattle.program.proofs.Fitting.{fit-less, fit-read}
 use Rattle.program.proofs.Resuming.{said-taken}
 use Rattle.program.proofs.Handling.{Keeps, keeps, fits, handled-fed, handled-unfed, handled-stops}
 

@@ -10,11 +10,10 @@ use lib.Seq.{drop-append-seam}
 use Rattle.rules.specs.Samples.{Equipment}
 use Rattle.rules.specs.Text.{hasFeed, firstLine}
 use Rattle.rules.specs.Transcripts.{inputEnd, transcriptOf, transcript}
-use Rattle.program.specs.States.{start, isDone}
+use Rattle.program.specs.States.{Fit, start, isDone}
 use Rattle.program.specs.Saying.{resume}
 use Rattle.program.specs.Responses.{budget, respondOf}
 use Rattle.program.specs.Sessions.{Session, Call, opened, called, during, ending, joined, Roomy, TranscriptLaw}
-use Rattle.program.proofs.Fitting.{Fit}
 use Rattle.program.proofs.Resuming.{done-resume}
 use Rattle.program.proofs.Transcripts.{resume-start}
 use Rattle.program.proofs.Responding.{s, ends, fit-after, says, taken-low, taken-high, done-stays, line-taken, tail-closed}

@@ -1,8 +1,9 @@
 -- Document 01, "Image and program": the program's state, where it begins, and how a lent one is read.
 -- Assumes nothing.
+use mathlib.Core.Path.{_≡_}
 use mathlib.Core.Bool.{Bool, true, false, cond, not, _&&_, _||_}
 use mathlib.Core.List.{[]}
-use Prim.Native.Nat.{ℕ, _+_}
+use Prim.Native.Nat.{ℕ, _+_, _≤_}
 use lib.Dec.{leb, eqb}
 use Rattle.rules.specs.Records.{fresh}
 use Rattle.rules.specs.Sheets.{settingsOf}
@@ -24,12 +25,19 @@ abbrev pub stopped : State → ℕ → State
 stopped q n =
     record { phase = 2; line = q .line; long = false; taken = q .taken + n; settings = q .settings; board = q .board }
 
--- a state that some input could lead to: each line before this one took a byte, no more than the input's 10^12 bytes are taken, and
+-- a state that some input could lead to: no more than the input's 10^12 bytes are taken, each line before this one took a byte, and
 -- a sheet has thirteen lines
 unfoldable pub sensible : State → Bool
 sensible q =
-    leb 1 (q .line) && (leb (q .line) (q .taken + 1) && (leb (q .taken) inputEnd && (not (readsSheet q) || leb (q .line) 13)))
+    leb 1 (q .line) && (leb (q .taken) inputEnd && (leb (q .line) (q .taken + 1) && (not (readsSheet q) || leb (q .line) 13)))
 
 -- any other state is read as one where all is done
 unfoldable pub readState : State → State
 readState q = cond (sensible q) q (stopped q 0)
+
+-- and from which n bytes more may be taken
+pub record Fit (q : State) (n : ℕ) : Type 0 where
+  pub from-one : 1 ≤ q .line
+  pub low : q .line ≤ q .taken + 1
+  pub high : q .taken + n ≤ inputEnd
+  pub sheet : readsSheet q ≡ true → q .line ≤ 13

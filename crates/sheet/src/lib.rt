@@ -13,7 +13,7 @@ use rules::Refusal;
 use rules::Settings;
 use rules::SettingsCheck;
 use settings::check_line;
-use storing::no_settings;
+pub use storing::no_settings;
 use storing::with_numbers;
 use text::form_numbers;
 use text::line_end;

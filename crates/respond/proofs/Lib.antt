@@ -1,0 +1,5 @@
+pub mod States
+pub mod Buffers
+pub mod SheetLines
+pub mod SampleLines
+pub mod Tails

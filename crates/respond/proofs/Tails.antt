@@ -1,0 +1,118 @@
+-- What stands after the last line feed of a block.
+-- Assumes nothing.
+use mathlib.Core.Path.{_≡_, refl, sym, ap, ap₂, _∙_, subst}
+use mathlib.Core.Bool.{Bool, true, false, cond, _||_, false≢true}
+use mathlib.Core.List.{List, [], _∷_, _++_, append-nil}
+use Prim.Native.Nat.{ℕ, _+_, _-_, _≤_, _<_}
+use native.Mathlib.Omega.{arith}
+use borrow.Author.Tests.{lt-ltb, le-ltb, le-leb, lt-leb, ne-eqb}
+use lib.Dec.{ltb, leb, eqb}
+use lib.ListN.{length, drop, length-drop}
+use Rattle.rules.specs.Regions.{ourEquipment}
+use Rattle.rules.specs.Text.{hasFeed}
+use Rattle.rules.specs.Transcripts.{linesIn, refusedLine}
+use Rattle.rules.specs.declared.Refusal.the-variants.{Form, Sample}
+use Rattle.buffers.specs.Written.{Wrote}
+use Rattle.program.specs.States.{isDone, stopped}
+use Rattle.program.specs.Saying.{Said, isSome, endText}
+use Rattle.program.specs.Responses.{longest, lineRoom, stops, atTail, handled}
+use Rattle.program.specs.declared.State.{State}
+use Rattle.program.proofs.Handling.{handled-unfed, handled-stops}
+use Rattle.respond.specs.Carrying.{droppedState, Stuck, Closed}
+use Rattle.respond.specs.declared.state.Handled.{Handled}
+use Rattle.respond.proofs.Buffers.{wrote-none}
+
+-- ---- the text at the input's end
+
+module _ (q : State) (l : List ℕ) where
+  pub end-sheet : q .phase ≡ 0 → refusedLine Form (q .line) ≡ endText q l
+  unfolding endText
+  end-sheet p = rw p
+
+  pub end-done : 2 ≤ q .phase → [] ≡ endText q l
+  unfolding endText
+  end-done p = rw (le-leb 2 (q .phase) p)
+
+  some-is : isSome l ≡ ltb 0 (length l)
+  some-is = by l
+    where
+      by : (k : List ℕ) → isSome k ≡ ltb 0 (length k)
+      by [] = refl
+      by (b ∷ k) = sym (lt-ltb 0 (length (b ∷ k)) (omega arith))
+
+  module _ (other : q .phase ≡ 0 → ⊥) (low : q .phase < 2) where
+    end-by : (b : Bool) → (q .long || ltb 0 (length l)) ≡ b → cond b (refusedLine Sample (q .line)) [] ≡ endText q l
+    unfolding endText
+    end-by b e = rw (lt-leb 2 (q .phase) low, ne-eqb (q .phase) 0 other, some-is, e)
+
+    pub end-sample : (q .long || ltb 0 (length l)) ≡ true → refusedLine Sample (q .line) ≡ endText q l
+    end-sample e = end-by true e
+
+    pub end-none : (q .long || ltb 0 (length l)) ≡ false → [] ≡ endText q l
+    end-none e = end-by false e
+
+-- ---- the tail
+
+module _ (ends : Bool) (s d : List ℕ) (h : Handled) (inside : h .at ≤ length s) (full : h .written ≤ length d) where
+  stays : ((before : List ℕ) → length before ≡ h .written → handled ourEquipment ends (length d) (record { state = h .state; text = before }) (linesIn (drop (h .at) s)) ≡ record { state = h .state; text = before })
+      → Closed ends s d h d h
+  stays f =
+      record {
+        later = omega arith;
+        taken = omega arith;
+        text = [];
+        wrote = wrote-none d (h .written) full;
+        all = λ before l. f before l ∙ ap (λ (t : List ℕ). record { state = h .state; text = t }) (sym (append-nil before));
+      }
+
+  pub done-stays : 2 ≤ h .state .phase → Closed ends s d h d h
+  done-stays p =
+      stays (λ before l. handled-stops ourEquipment ends (length d) (record { state = h .state; text = before }) (linesIn (drop (h .at) s)) (rw (le-leb 2 (h .state .phase) p)))
+
+  or-true : (a : Bool) → (a || true) ≡ true
+  or-true true = refl
+  or-true false = refl
+
+  pub full-stays : length d < h .written + lineRoom → Closed ends s d h d h
+  full-stays p =
+      stays (λ before l. handled-stops ourEquipment ends (length d) (record { state = h .state; text = before }) (linesIn (drop (h .at) s)) (rw (lt-ltb (length d) (length before + lineRoom) (omega arith)) (or-true (isDone (h .state)))))
+
+  module _ (low : h .state .phase < 2) (free : h .written + lineRoom ≤ length d) (stuck : Stuck s d h) where
+    going : isDone (h .state) ≡ false
+    going = lt-leb 2 (h .state .phase) low
+
+    abbrev rest : List ℕ
+    rest = drop (h .at) s
+
+    tail-is : (before : List ℕ) → length before ≡ h .written → handled ourEquipment ends (length d) (record { state = h .state; text = before }) (linesIn rest) ≡ atTail ends (record { state = h .state; text = before }) rest
+    tail-is before l =
+        handled-unfed ourEquipment ends (length d) (record { state = h .state; text = before }) rest (stuck going free)
+        ∙ rw (going, le-ltb (length d) (length before + lineRoom) (omega arith))
+
+    rest-length : length rest ≡ length s - h .at
+    rest-length = length-drop (h .at) s
+
+    pub closes : ends ≡ true → (d′ : List ℕ) (w′ : ℕ) → ((l : List ℕ) → length l ≡ length s - h .at → Wrote d (h .written) d′ w′ (endText (h .state) l)) → (next : State) → next ≡ stopped (h .state) (length s - h .at)
+        → Closed ends s d h d′ (record { state = next; at = length s; written = w′ })
+    closes e d′ w′ wrote next is =
+        record {
+          later = inside;
+          taken = ap (λ (k : State). k .taken) is;
+          text = endText (h .state) rest;
+          wrote = wrote rest rest-length;
+          all = λ before l. tail-is before l ∙ rw (e, is, rest-length);
+        }
+
+    pub drops : ends ≡ false → (h .state .long || ltb longest (length s - h .at)) ≡ true → (next : State) → next ≡ droppedState (h .state) (length s - h .at)
+        → Closed ends s d h d (record { state = next; at = length s; written = h .written })
+    drops e long next is =
+        record {
+          later = inside;
+          taken = ap (λ (k : State). k .taken) is;
+          text = [];
+          wrote = wrote-none d (h .written) full;
+          all = λ before l. tail-is before l ∙ rw (e, rest-length, long, is, append-nil before);
+        }
+
+    pub waits : ends ≡ false → (h .state .long || ltb longest (length s - h .at)) ≡ false → Closed ends s d h d h
+    waits e short = stays (λ before l. tail-is before l ∙ rw (e, rest-length, short))

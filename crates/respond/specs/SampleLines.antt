@@ -1,0 +1,37 @@
+-- One sample line of a block: its numbers, and what it makes of a board.
+-- Assumes nothing.
+use mathlib.Core.Bool.{Bool, true, false, cond}
+use mathlib.Core.List.{List, map}
+use mathlib.Core.Option.{Option, none, some}
+use Prim.Native.Nat.{ℕ, _+_}
+use lib.IntN.{ℤ, natAbs}
+use lib.ListN.{length, replicate}
+use Rattle.rules.specs.Text.{firstLine, hasFeed}
+use Rattle.rules.specs.Forms.{sampleForm}
+use Rattle.rules.specs.Regions.{ourEquipment}
+use Rattle.rules.specs.Records.{turnedAway, stepOf}
+use Rattle.rules.specs.declared.Settings.{Settings}
+use Rattle.rules.specs.declared.Board.{Board}
+use Rattle.rules.specs.declared.Refusal.the-variants.{Sample}
+use Rattle.rules.specs.declared.Stepped.{Stepped}
+use Rattle.program.specs.Saying.{numbersIn}
+use Rattle.respond.specs.declared.sample_lines.LineAt.{LineAt}
+
+abbrev pub withoutNumbers : Bool → ℕ → LineAt
+withoutNumbers ended next = record { ended = ended; found = false; next = next; slice = replicate 7 0 }
+
+abbrev pub withNumbers : ℕ → Option (List ℤ) → LineAt
+withNumbers next none = withoutNumbers true next
+withNumbers next (some ns) = record { ended = true; found = true; next = next; slice = map natAbs ns }
+
+-- the line that a text begins with, where it has no form
+abbrev pub formlessAt : List ℕ → ℕ → LineAt
+formlessAt s at = cond (hasFeed s) (withoutNumbers true (at + length (firstLine s) + 1)) (withoutNumbers false at)
+
+-- the line that a text begins with, the text standing at a place
+unfoldable pub lineAt : Bool → List ℕ → ℕ → LineAt
+lineAt long s at =
+    cond (hasFeed s) (withNumbers (at + length (firstLine s) + 1) (numbersIn long sampleForm (firstLine s))) (withoutNumbers false at)
+
+abbrev pub answerTo : Board → Settings → LineAt → Stepped
+answerTo b st x = cond (x .found) (stepOf ourEquipment b st (x .slice)) (turnedAway b Sample)

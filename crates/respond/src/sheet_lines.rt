@@ -1,0 +1,117 @@
+// The sheet's lines of a block.
+ghost use mathlib.Core.Path.{_≡_};
+ghost use Prim.Native.Nat.{ℕ, _+_, _<_};
+ghost use lib.ListN.{length};
+ghost use Rattle.rules.specs.declared.Refusal.{Refusal};
+ghost use Rattle.rules.specs.declared.SettingsCheck.{SettingsCheck};
+ghost use Rattle.text.specs.Forms.{formAt};
+ghost use Rattle.sheet.specs.Storing.{onLine};
+ghost use Rattle.program.specs.States.{Fit};
+ghost use Rattle.program.specs.Saying.{numbersIn, phaseAfter, sheetLine};
+ghost use Rattle.respond.specs.Carrying.{checkText, SheetSaid};
+use crate::state::stop;
+use program::State;
+use rules::Refusal;
+use rules::Settings;
+use rules::SettingsCheck;
+use sheet::LineRead;
+use sheet::read_line;
+use text::line_end;
+
+// Line i of a sheet, counted from 0; one whose beginning was dropped has no form.
+fn read_whole(long: bool, i: usize, line: &[u8], before: Settings) -> LineRead
+    requires { ⌜ i < 13 ⌝ }
+    ensures { λ r. ⌜ r ≡ onLine i before (numbersIn long (formAt i) (now (line .entry))) ⌝ }
+{
+    if long {
+        return LineRead {
+            check: SettingsCheck::Refused(Refusal::Form, (i + 1) as u8),
+            settings: before,
+        };
+    }
+    read_line(i, line, before)
+}
+
+fn phase_after(line: u64) -> u8
+    ensures { λ r. ⌜ r ≡ phaseAfter line ⌝ }
+{
+    if line == 13 { 1 } else { 0 }
+}
+
+// The state after a sheet's line, and what checking the line found.
+pub struct SheetLine {
+    pub state: State,
+    pub check: SettingsCheck,
+}
+
+fn sheet_line(q: State, line: &[u8]) -> SheetLine
+    requires { ⌜ (q .phase ≡ 0) × (Fit q (length (now line) + 1)) ⌝ }
+    ensures { λ r. ⌜ sheetLine q (now (line .entry)) ≡ record { state = r .state; text = checkText (r .check) } ⌝ }
+    ensures { λ r. ⌜ ((cause : Refusal) (n : ℕ) → r .check ≡ SettingsCheck.Refused cause n → r .state .phase ≡ 2) ⌝ }
+{
+    let n = line.len() as u64 + 1;
+    let number = q.line;
+    let before = q.settings;
+    let board = q.board;
+    let read = read_whole(q.long, (number - 1) as usize, line, before);
+    let check = read.check;
+    match check {
+        SettingsCheck::Refused(_, _) => SheetLine {
+            state: stop(q, n),
+            check,
+        },
+        SettingsCheck::Accepted => {
+            let settings = read.settings;
+            let state = State {
+                phase: phase_after(number),
+                line: number + 1,
+                long: false,
+                taken: q.taken + n,
+                settings,
+                board,
+            };
+            SheetLine { state, check }
+        }
+    }
+}
+
+// Where the sheet's lines of a block end, and what checking the last of them found.
+pub struct SheetLines {
+    pub state: State,
+    pub at: usize,
+    pub check: SettingsCheck,
+}
+
+// The sheet's lines, as many as are there, up to the first that is refused.
+pub fn sheet_lines(q: State, s: &[u8]) -> SheetLines
+    requires { ⌜ Fit q (length (now s)) ⌝ }
+    ensures { λ r. ⌜ SheetSaid q (now (s .entry)) r ⌝ }
+{
+    let mut state = q;
+    let mut at = 0;
+    while state.phase == 0 {
+        let end = line_end(s, at);
+        if end >= s.len() {
+            return SheetLines {
+                state,
+                at,
+                check: SettingsCheck::Accepted,
+            };
+        }
+        let r = sheet_line(state, &s[at..end]);
+        let check = r.check;
+        state = r.state;
+        at = end + 1;
+        match check {
+            SettingsCheck::Accepted => {}
+            SettingsCheck::Refused(_, _) => {
+                return SheetLines { state, at, check };
+            }
+        }
+    }
+    SheetLines {
+        state,
+        at,
+        check: SettingsCheck::Accepted,
+    }
+}

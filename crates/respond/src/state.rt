@@ -1,0 +1,73 @@
+// The program's state: where it begins, how a lent one is read, and where it ends.
+ghost use mathlib.Core.Path.{_≡_};
+ghost use mathlib.Core.Bool.{_||_};
+ghost use Prim.Native.Nat.{_+_, _<_};
+ghost use Rattle.program.specs.States.{start, sensible, stopped};
+use program::State;
+use service::fresh;
+use sheet::no_settings;
+
+// A state, the place in a block that it stands at, and how many bytes are written.
+pub struct Handled {
+    pub state: State,
+    pub at: usize,
+    pub written: usize,
+}
+
+pub fn either(a: bool, b: bool) -> bool
+    ensures { λ r. ⌜ r ≡ (a || b) ⌝ }
+{
+    if a { true } else { b }
+}
+
+// Before the first byte.
+pub fn start() -> State
+    ensures { λ r. ⌜ r ≡ start ⌝ }
+{
+    State {
+        phase: 0,
+        line: 1,
+        long: false,
+        taken: 0,
+        settings: no_settings(),
+        board: fresh(),
+    }
+}
+
+// Some input could lead to it.
+pub fn sensible(q: State) -> bool
+    ensures { λ r. ⌜ r ≡ sensible q ⌝ }
+{
+    let line = q.line;
+    let taken = q.taken;
+    if line < 1 {
+        return false;
+    }
+    if 1000000000000 < taken {
+        return false;
+    }
+    if taken + 1 < line {
+        return false;
+    }
+    if q.phase == 0 {
+        return line <= 13;
+    }
+    true
+}
+
+// All is done, with n bytes more taken.
+pub fn stop(q: State, n: u64) -> State
+    requires { ⌜ q .taken + n < 18446744073709551616 ⌝ }
+    ensures { λ r. ⌜ r ≡ stopped q n ⌝ }
+{
+    let settings = q.settings;
+    let board = q.board;
+    State {
+        phase: 2,
+        line: q.line,
+        long: false,
+        taken: q.taken + n,
+        settings,
+        board,
+    }
+}
