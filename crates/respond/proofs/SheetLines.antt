@@ -79,16 +79,16 @@ module _ (q : State) (s : List ℕ) (state : State) (at end : ℕ) (going : Goin
   pub waits : length s ≤ end → SheetSaid q s (record { state = state; at = at; check = SettingsCheck.Accepted })
   waits h = record { stands = going .stands; same = going .same; stuck = λ p. no-feed h }
 
+  pub fit-line : end < length s → Fit state (length (take (end - at) (drop at s)) + 1)
+  fit-line h =
+      let f = going .stands .fit in
+      let n = ap length (line-lent s at end place) in
+      record { from-one = f .from-one; low = f .low; high = omega (arith, f .high, n); sheet = f .sheet }
+
   module _ (h : end < length s) (next : State) (check : SettingsCheck)
       (is : sheetLine state (take (end - at) (drop at s)) ≡ record { state = next; text = checkText check }) where
     fed : hasFeed (drop at s) ≡ true
     fed = sym ended ∙ lt-ltb end (length s) h
-
-    pub fit-line : Fit state (length (take (end - at) (drop at s)) + 1)
-    fit-line =
-        let f = going .stands .fit in
-        let n = ap length (line-lent s at end place) in
-        record { from-one = f .from-one; low = f .low; high = omega (arith, f .high, n); sheet = f .sheet }
 
     said-is : said ourEquipment state (firstLine (drop at s)) ≡ record { state = next; text = checkText check }
     unfolding said

@@ -64,8 +64,7 @@ fn on_sheet(q: State, s: &[u8], out: &mut [u8]) -> Handled
 
 // The sample lines of a block, once the sheet is read. The sensing table is made once for all of them.
 fn on_samples(h: Handled, s: &[u8], out: &mut [u8]) -> Handled
-    requires { ⌜ (h .at ≤ length (now s)) × (h .written ≤ length (now out)) × (Fit (h .state) (length (now s) - h .at)) ⌝ }
-    requires { ⌜ (readsSheet (h .state) ≡ true → hasFeed (drop (h .at) (now s)) ≡ false) ⌝ }
+    requires { ⌜ (h .at ≤ length (now s)) × (h .written ≤ length (now out)) × (Fit (h .state) (length (now s) - h .at)) × (readsSheet (h .state) ≡ true → hasFeed (drop (h .at) (now s)) ≡ false) ⌝ }
     ensures { λ r. ⌜ Carried (now (s .entry)) (now (out .entry)) h (now (out .exit)) r ⌝ }
     ensures { λ r. ⌜ Stuck (now (s .entry)) (now (out .entry)) r ⌝ }
 {

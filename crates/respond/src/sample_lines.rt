@@ -132,8 +132,7 @@ fn fits(ended: bool, room: usize) -> bool
 
 // The sample lines of a block, as many as are there and fit, from a place that the state stands at.
 pub fn sample_lines(table: &[u16; 4096], h: Handled, s: &[u8], out: &mut [u8]) -> Handled
-    requires { ⌜ (IsTable (now table)) × (h .state .phase ≡ 1) × (Fit (h .state) (length (now s) - h .at)) ⌝ }
-    requires { ⌜ (h .at ≤ length (now s)) × (h .written ≤ length (now out)) ⌝ }
+    requires { ⌜ (IsTable (now table)) × (h .state .phase ≡ 1) × (Fit (h .state) (length (now s) - h .at)) × (h .at ≤ length (now s)) × (h .written ≤ length (now out)) ⌝ }
     ensures { λ r. ⌜ Carried (now (s .entry)) (now (out .entry)) h (now (out .exit)) r ⌝ }
     ensures { λ r. ⌜ Stuck (now (s .entry)) (now (out .entry)) r ⌝ }
 {

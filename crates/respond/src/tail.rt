@@ -54,8 +54,7 @@ fn drop_bytes(q: State, n: u64) -> State
 // The bytes after the last line feed: where the input ends with them, they are its last line; a line longer than any form is taken
 // and dropped; any other waits for its line feed.
 pub fn tail(h: Handled, s: &[u8], ends: bool, out: &mut [u8]) -> Handled
-    requires { ⌜ (h .at ≤ length (now s)) × (h .written ≤ length (now out)) × (Fit (h .state) (length (now s) - h .at)) ⌝ }
-    requires { ⌜ Stuck (now s) (now out) h ⌝ }
+    requires { ⌜ (h .at ≤ length (now s)) × (h .written ≤ length (now out)) × (Fit (h .state) (length (now s) - h .at)) × (Stuck (now s) (now out) h) ⌝ }
     ensures { λ r. ⌜ Closed ends (now (s .entry)) (now (out .entry)) h (now (out .exit)) r ⌝ }
 {
     let q = h.state;

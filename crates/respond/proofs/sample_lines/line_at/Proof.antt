@@ -1,34 +1,30 @@
+-- `respond::sample_lines::line_at` meets its contract.
+-- Assumes nothing.
+use mathlib.Core.Path.{_∙_}
+use denote.Ref.{now}
+use lib.ListN.{drop}
+use Rattle.respond.proofs.SampleLines.{long-line, found-line, missed-line}
 use borrow.Author.Needs.{needs}
 use Rattle.respond.proofs.sample_lines.line_at.Statement.{statement}
 use Rattle.respond.proofs.sample_lines.line_at.Tie as tie
-use Rattle.respond.proofs.sample_lines.line_at.Reads as reads
-use Rattle.respond.proofs.sample_lines.line_at.Lts as lts
-use Rattle.respond.proofs.sample_lines.formless_at.Reads as formless-at-reads
-use Rattle.text.proofs.sample_at.Reads as sample-at-reads
 
--- src/sample_lines.rt:90:9
 formless-at-requires : tie.Need-formless-at-requires
 formless-at-requires c κs = search needs
 
--- src/sample_lines.rt:90:9
 returns : tie.Need-returns
-returns c = ?
+returns c = let a = c .before .before .before .before .args in c .formless-at .ensures ∙ rw (c .before .if1 .taken) (long-line (drop (a .at) (now (a .s))) (a .at))
 
--- src/sample_lines.rt:92:9
 sample-at-requires : tie.Need-sample-at-requires
 sample-at-requires c κs = search needs
 
--- src/sample_lines.rt:95:9
 returns-2 : tie.Need-returns-2
-returns-2 c = ?
+returns-2 c = let a = c .before .before .before .before .before .before .args in rw (c .before .before .before .if1 .left) (found-line (now (a .s)) (a .at) (c .before .before .sample-at .result) (c .before .before .sample-at .ensures) (c .before .if2 .taken))
 
--- src/sample_lines.rt:102:5
 formless-at-requires-2 : tie.Need-formless-at-requires-2
 formless-at-requires-2 c κs = search needs
 
--- src/sample_lines.rt:85:1
 returns-3 : tie.Need-returns-3
-returns-3 c = ?
+returns-3 c = let a = c .before .before .before .before .before .before .args in c .formless-at2 .ensures ∙ rw (c .before .before .before .if1 .left) (missed-line (now (a .s)) (a .at) (c .before .before .sample-at .result) (c .before .before .sample-at .ensures) (c .before .if2 .left))
 
 pub line-at-spec : {M : Type 1} → statement M
 line-at-spec =

@@ -20,13 +20,13 @@ same-length : tie.Need-same-length
 same-length c = search needs
 
 returns : tie.Need-returns
-returns c = rw (c .before .before .before .answer .given .1) (c .before .put-report .ensures)
+returns c = rw (c .before .before .before .before .before .answer .given .1) (c .before .before .put-report .ensures)
 
 same-length-2 : tie.Need-same-length-2
 same-length-2 c = search needs
 
 returns-2 : tie.Need-returns-2
-returns-2 c = rw (c .before .before .before .answer2 .given .1) (c .before .put-refused .ensures)
+returns-2 c = rw (c .before .before .before .before .before .answer2 .given .1) (c .before .before .put-refused .ensures)
 
 pub put-answer-spec : {M : Type 1} → statement M
 put-answer-spec =

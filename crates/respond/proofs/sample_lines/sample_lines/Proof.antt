@@ -1,93 +1,117 @@
+-- `respond::sample_lines::sample_lines` meets its contract. The loop's invariant: what is said from here on is what was to be said from h on
+-- (`SampleLines.antt`).
+-- Assumes nothing.
+use mathlib.Core.Path.{_≡_, sym, _∙_, subst}
+use mathlib.Core.Bool.{cond}
+use native.Mathlib.Omega.{arith}
+use denote.Ref.{now}
+use Prim.Native.Nat.{_+_, _-_}
+use lib.ListN.{length}
+use Rattle.respond.proofs.Buffers.{wrote-length}
+use Rattle.respond.proofs.SampleLines.{Going, here, beginning, stops, room, next-is, goes-on}
+use borrow.Author.Needs.{needs}
 use Rattle.respond.proofs.sample_lines.sample_lines.Statement.{statement}
 use Rattle.respond.proofs.sample_lines.sample_lines.Tie as tie
-use Rattle.respond.proofs.sample_lines.sample_lines.Reads as reads
-use Rattle.respond.proofs.sample_lines.sample_lines.Lts as lts
-use Rattle.respond.proofs.sample_lines.accepted.Reads as accepted-reads
-use Rattle.respond.proofs.sample_lines.answer_to.Reads as answer-to-reads
-use Rattle.respond.proofs.sample_lines.fits.Reads as fits-reads
-use Rattle.respond.proofs.sample_lines.line_at.Reads as line-at-reads
-use Rattle.respond.proofs.sample_lines.put_answer.Reads as put-answer-reads
-use Rattle.text.proofs.sample_form.Reads as sample-form-reads
+
+-- (`SampleLines.antt`).
+
+-- (`SampleLines.antt`).
 
 abbrev Inv-loop : tie.InvT-loop
 Inv-loop table h s out₀ q settings fine form board₀ line₀ long₀ at₀ w₀ going₀ out board line long at w going =
-    ?
+    Going s out₀ h out (here h board line long at w) going
 
 abbrev μ-loop : tie.MeasureT-loop
 μ-loop table h s out₀ q settings fine form board₀ line₀ long₀ at₀ w₀ going₀ out board line long at w going =
-    ?
+    cond going (length s - at + 1) 0
 
--- src/sample_lines.rt:133:9
 accepted-requires : tie.Need-accepted-requires Inv-loop μ-loop
-accepted-requires c κs = ?
+accepted-requires c κs = search needs
 
--- src/sample_lines.rt:134:16
 sample-form-requires : tie.Need-sample-form-requires Inv-loop μ-loop
-sample-form-requires c κs = ?
+sample-form-requires c κs = search needs
 
--- src/sample_lines.rt:141:5
 loop-holds : tie.Need-loop-holds Inv-loop μ-loop
-loop-holds c = ?
+loop-holds c = 
+    let a = c .before .before .before .before .before .before .before in
+    beginning (now (a .args .s)) (now (a .args .out)) (a .args .h) (a .pre .1) (a .pre .2) (a .pre .3) (a .pre .4)
 
--- src/sample_lines.rt:142:25
 slice-aggregate-line-at : tie.Need-slice-aggregate-line-at Inv-loop μ-loop
-slice-aggregate-line-at c = ?
+slice-aggregate-line-at c = search needs
 
--- src/sample_lines.rt:142:13
 line-at-requires : tie.Need-line-at-requires Inv-loop μ-loop
-line-at-requires c κs = ?
+line-at-requires c κs = (c .before .before .before .before .sample-form .ensures, c .before .before .loop .inv .carried .stands .inside)
 
--- src/sample_lines.rt:143:31
 sub-fits : tie.Need-sub-fits Inv-loop μ-loop
-sub-fits c = ?
+sub-fits c = let k = c .before .before .before .loop .inv .carried .wrote in omega (arith, k .inside, wrote-length k)
 
--- src/sample_lines.rt:143:9
 fits-requires : tie.Need-fits-requires Inv-loop μ-loop
-fits-requires c κs = ?
+fits-requires c κs = search needs
 
--- src/sample_lines.rt:145:17
 answer-to-requires : tie.Need-answer-to-requires Inv-loop μ-loop
-answer-to-requires c κs = ?
+answer-to-requires c κs = (c .before .before .before .before .before .before .before .before .before .before .before .before .before .pre .0, c .before .before .before .before .before .before .before .before .accepted .ensures)
 
--- src/sample_lines.rt:148:13
 put-answer-requires : tie.Need-put-answer-requires Inv-loop μ-loop
-put-answer-requires c κs = ?
+put-answer-requires c κs = 
+    let w = c .before .before .before .before .before .before .before .before .loop in
+    let a = c .before .before .before .before .before .before .before .before .before .before .before .before .before .before .before .before .args in
+    let s = now (a .s) in
+    let d = now (a .out) in
+    let before = subst (Going s d (a .h) (w .out) (here (a .h) (w .board) (w .line) (w .long) (w .at) (w .w))) (c .before .before .before .before .before .before .before .loop-test .taken) (w .inv) in
+    let x = c .before .before .before .before .before .line-at in
+    room s d (a .h) (w .out) (w .board) (w .line) (w .long) (w .at) (w .w) before (x .result) (x .ensures) (sym (c .before .before .before .before .fits2 .ensures) ∙ c .before .before .before .if1 .taken)
 
--- src/sample_lines.rt:151:13
 add-line : tie.Need-add-line Inv-loop μ-loop
-add-line c = ?
+add-line c = let f = c .before .before .before .before .before .before .before .before .before .before .before .loop .inv .carried .stands .fit in omega (arith, f .low, f .high)
 
--- src/sample_lines.rt:141:5
 loop-less : tie.Need-loop-less Inv-loop μ-loop
-loop-less c = ?
+loop-less c = 
+    let w = c .before .before .before .before .before .before .before .before .before .before .before .loop in
+    let a = c .before .before .before .before .before .before .before .before .before .before .before .before .before .before .before .before .before .before .before .args in
+    let s = now (a .s) in
+    let d = now (a .out) in
+    let before = subst (Going s d (a .h) (w .out) (here (a .h) (w .board) (w .line) (w .long) (w .at) (w .w))) (c .before .before .before .before .before .before .before .before .before .before .loop-test .taken) (w .inv) in
+    let x = c .before .before .before .before .before .before .before .before .line-at in
+    let next = next-is s d (a .h) (w .out) (w .board) (w .line) (w .long) (w .at) (w .w) before (x .result) (x .ensures) (sym (c .before .before .before .before .before .before .before .fits2 .ensures) ∙ c .before .before .before .before .before .before .if1 .taken) in
+    let r = c .before .before .before .before .before .answer-to in
+    let on = goes-on s d (a .h) (w .out) (w .board) (w .line) (w .long) (w .at) (w .w) before (x .result) (x .ensures) (sym (c .before .before .before .before .before .before .before .fits2 .ensures) ∙ c .before .before .before .before .before .before .if1 .taken) (r .result) (r .ensures) _ _ (c .before .before .put-answer .ensures) in
+    rw (c .before .before .before .before .before .before .if1 .taken, c .before .before .before .before .before .before .before .before .before .before .loop-test .taken) (omega (arith, next, on .carried .stands .inside))
 
--- src/sample_lines.rt:141:5
 loop-again : tie.Need-loop-again Inv-loop μ-loop
-loop-again c = ?
+loop-again c = 
+    let w = c .before .before .before .before .before .before .before .before .before .before .before .loop in
+    let a = c .before .before .before .before .before .before .before .before .before .before .before .before .before .before .before .before .before .before .before .args in
+    let s = now (a .s) in
+    let d = now (a .out) in
+    let before = subst (Going s d (a .h) (w .out) (here (a .h) (w .board) (w .line) (w .long) (w .at) (w .w))) (c .before .before .before .before .before .before .before .before .before .before .loop-test .taken) (w .inv) in
+    let x = c .before .before .before .before .before .before .before .before .line-at in
+    let r = c .before .before .before .before .before .answer-to in
+    rw (c .before .before .before .before .before .before .if1 .taken) (goes-on s d (a .h) (w .out) (w .board) (w .line) (w .long) (w .at) (w .w) before (x .result) (x .ensures) (sym (c .before .before .before .before .before .before .before .fits2 .ensures) ∙ c .before .before .before .before .before .before .if1 .taken) (r .result) (r .ensures) _ _ (c .before .before .put-answer .ensures))
 
--- src/sample_lines.rt:141:5
 loop-less-2 : tie.Need-loop-less-2 Inv-loop μ-loop
-loop-less-2 c = ?
+loop-less-2 c = rw (c .if1 .left, c .before .before .before .before .loop-test .taken) (omega arith)
 
--- src/sample_lines.rt:141:5
 loop-again-2 : tie.Need-loop-again-2 Inv-loop μ-loop
-loop-again-2 c = ?
+loop-again-2 c = 
+    let w = c .before .before .before .before .before .loop in
+    let a = c .before .before .before .before .before .before .before .before .before .before .before .before .before .args in
+    let s = now (a .s) in
+    let d = now (a .out) in
+    let before = subst (Going s d (a .h) (w .out) (here (a .h) (w .board) (w .line) (w .long) (w .at) (w .w))) (c .before .before .before .before .loop-test .taken) (w .inv) in
+    let x = c .before .before .line-at in
+    rw (c .if1 .left) (stops s d (a .h) (w .out) (w .board) (w .line) (w .long) (w .at) (w .w) before (x .result) (x .ensures) (sym (c .before .fits2 .ensures) ∙ c .if1 .left))
 
--- src/sample_lines.rt:158:28
 sub-t27 : tie.Need-sub-t27 Inv-loop μ-loop
-sub-t27 c = ?
+sub-t27 c = c .before .before .loop .inv .carried .stands .later
 
--- src/sample_lines.rt:158:16
 add-t29 : tie.Need-add-t29 Inv-loop μ-loop
-add-t29 c = ?
+add-t29 c = let t = c .before .before .before .loop .inv .carried .stands in omega (arith, t .fit .high)
 
--- src/sample_lines.rt:125:1
 same-length : tie.Need-same-length Inv-loop μ-loop
-same-length c = ?
+same-length c = wrote-length (c .before .before .before .loop .inv .carried .wrote)
 
--- src/sample_lines.rt:125:1
 returns : tie.Need-returns Inv-loop μ-loop
-returns c = ?
+returns c = let w = c .before .before .before .loop in (w .inv .carried, w .inv .stuck (c .before .before .loop-test .left))
 
 pub sample-lines-spec : {M : Type 1} → statement M
 sample-lines-spec =

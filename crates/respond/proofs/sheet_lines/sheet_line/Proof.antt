@@ -1,55 +1,49 @@
+-- `respond::sheet_lines::sheet_line` meets its contract.
+-- Assumes nothing.
+use mathlib.Core.Path.{_≡_, sym, _∙_}
+use native.Mathlib.Omega.{arith}
+use Prim.Native.Nat.{ℕ}
+use Rattle.rules.specs.declared.SettingsCheck.{SettingsCheck}
 use borrow.Author.Needs.{needs}
 use Rattle.respond.proofs.sheet_lines.sheet_line.Statement.{statement}
 use Rattle.respond.proofs.sheet_lines.sheet_line.Tie as tie
-use Rattle.respond.proofs.sheet_lines.sheet_line.Reads as reads
-use Rattle.respond.proofs.sheet_lines.sheet_line.Lts as lts
-use Rattle.respond.proofs.sheet_lines.phase_after.Reads as phase-after-reads
-use Rattle.respond.proofs.sheet_lines.read_whole.Reads as read-whole-reads
-use Rattle.respond.proofs.state.stop.Reads as stop-reads
 
--- src/sheet_lines.rt:49:13
 add-n : tie.Need-add-n
 add-n c = search needs
 
--- src/sheet_lines.rt:53:36
 sub-read-whole : tie.Need-sub-read-whole
 sub-read-whole c = search needs
 
--- src/sheet_lines.rt:53:9
 read-whole-requires : tie.Need-read-whole-requires
-read-whole-requires c κs = ?
+read-whole-requires c κs = let f = c .before .before .before .pre .1 in let low = f .sheet (rw (c .before .before .before .pre .0)) in omega (arith, f .from-one)
 
--- src/sheet_lines.rt:57:20
 enum-told : tie.Need-enum-told
 enum-told c = search needs
 
--- src/sheet_lines.rt:57:20
 stop-requires : tie.Need-stop-requires
 stop-requires c κs = search needs
 
--- src/sheet_lines.rt:61:17
 enum-told-2 : tie.Need-enum-told-2
 enum-told-2 c = search needs
 
--- src/sheet_lines.rt:63:24
 phase-after-requires : tie.Need-phase-after-requires
 phase-after-requires c κs = search needs
 
--- src/sheet_lines.rt:64:23
 add-t16 : tie.Need-add-t16
 add-t16 c = search needs
 
--- src/sheet_lines.rt:66:24
 add-t17 : tie.Need-add-t17
 add-t17 c = search needs
 
--- src/sheet_lines.rt:45:1
 returns : tie.Need-returns
-returns c = ?
+returns c = (rw (← c .before .before .before .read-whole .ensures, c .before .enum-told .given .1, c .stop .ensures), λ cause n e. rw (c .stop .ensures))
 
--- src/sheet_lines.rt:45:1
 returns-2 : tie.Need-returns-2
-returns-2 c = ?
+returns-2 c = 
+    let told = c .before .before .before .enum-told2 .given .1 in
+    (rw (← c .before .before .before .before .before .read-whole .ensures, told, c .before .phase-after .ensures), λ cause n e.
+      let clash : SettingsCheck.Accepted ≡ SettingsCheck.Refused cause n = sym told ∙ e in
+      let z : _≡_ {A = ℕ} 0 1 = cc in absurd (omega arith))
 
 pub sheet-line-spec : {M : Type 1} → statement M
 sheet-line-spec =

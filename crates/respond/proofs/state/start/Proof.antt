@@ -13,7 +13,7 @@ fresh-requires c κs = search needs
 
 returns : tie.Need-returns
 unfolding start
-returns c = rw (c .before .before .no-settings .ensures, c .fresh .ensures)
+returns c = rw (c .before .no-settings .ensures, c .fresh .ensures)
 
 pub start-spec : {M : Type 1} → statement M
 start-spec = tie.close (tie.spec no-settings-requires fresh-requires returns)

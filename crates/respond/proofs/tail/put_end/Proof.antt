@@ -1,46 +1,40 @@
+-- `respond::tail::put_end` meets its contract.
+-- Assumes nothing.
+use mathlib.Core.Path.{sym, _∙_}
+use native.Mathlib.Omega.{arith}
+use denote.Ref.{now}
+use Rattle.respond.proofs.Buffers.{wrote-none}
+use Rattle.respond.proofs.Tails.{end-sheet, end-done, end-sample, end-none}
 use borrow.Author.Needs.{needs}
 use Rattle.respond.proofs.tail.put_end.Statement.{statement}
 use Rattle.respond.proofs.tail.put_end.Tie as tie
-use Rattle.respond.proofs.tail.put_end.Reads as reads
-use Rattle.respond.proofs.tail.put_end.Lts as lts
-use Rattle.lines.proofs.put_refused.Reads as put-refused-reads
-use Rattle.respond.proofs.state.either.Reads as either-reads
 
--- src/tail.rt:25:9
 put-refused-requires : tie.Need-put-refused-requires
 put-refused-requires c κs = search needs
 
--- src/tail.rt:25:9
 same-length : tie.Need-same-length
 same-length c = search needs
 
--- src/tail.rt:25:9
 returns : tie.Need-returns
-returns c = ?
+returns c = λ l e. rw (← end-sheet (c .before .before .before .before .before .before .args .q) l (c .before .before .before .before .if1 .taken)) (c .before .before .put-refused .ensures)
 
--- src/tail.rt:28:9
 returns-2 : tie.Need-returns-2
-returns-2 c = ?
+returns-2 c = λ l e. rw (← end-done (c .before .before .before .args .q) l (c .if2 .taken)) (wrote-none (now (c .before .before .before .args .out)) (c .before .before .before .args .at) (omega arith))
 
--- src/tail.rt:30:9
 either-requires : tie.Need-either-requires
 either-requires c κs = search needs
 
--- src/tail.rt:32:9
 put-refused-requires-2 : tie.Need-put-refused-requires-2
 put-refused-requires-2 c κs = search needs
 
--- src/tail.rt:32:9
 same-length-2 : tie.Need-same-length-2
 same-length-2 c = search needs
 
--- src/tail.rt:32:9
 returns-3 : tie.Need-returns-3
-returns-3 c = ?
+returns-3 c = λ l e. rw (← end-sample (c .before .before .before .before .before .before .before .before .before .args .q) l (c .before .before .before .before .before .before .before .if1 .left) (omega arith) (rw e (sym (c .before .before .before .before .before .either .ensures) ∙ c .before .before .before .before .if3 .taken))) (c .before .before .put-refused2 .ensures)
 
--- src/tail.rt:18:1
 returns-4 : tie.Need-returns-4
-returns-4 c = ?
+returns-4 c = λ l e. rw (← end-none (c .before .before .before .before .before .args .q) l (c .before .before .before .if1 .left) (omega arith) (rw e (sym (c .before .either .ensures) ∙ c .if3 .left))) (wrote-none (now (c .before .before .before .before .before .args .out)) (c .before .before .before .before .before .args .at) (omega arith))
 
 pub put-end-spec : {M : Type 1} → statement M
 put-end-spec =
