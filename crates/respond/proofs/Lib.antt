@@ -3,3 +3,4 @@ pub mod Buffers
 pub mod SheetLines
 pub mod SampleLines
 pub mod Tails
+pub mod Whole

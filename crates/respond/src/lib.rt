@@ -13,8 +13,6 @@ pub mod sheet_lines;
 pub mod state;
 pub mod tail;
 
-pub use state::start;
-
 use lines::put_refused;
 use program::State;
 use rules::SettingsCheck;
@@ -24,6 +22,7 @@ use sheet_lines::sheet_lines;
 use state::Handled;
 use state::either;
 use state::sensible;
+pub use state::start;
 use state::stop;
 use tail::tail;
 
@@ -53,11 +52,7 @@ fn on_sheet(q: State, s: &[u8], out: &mut [u8]) -> Handled
         },
         SettingsCheck::Refused(cause, line) => {
             let written = put_refused(out, 0, cause, line as u64);
-            Handled {
-                state,
-                at,
-                written,
-            }
+            Handled { state, at, written }
         }
     }
 }

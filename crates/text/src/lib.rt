@@ -19,7 +19,6 @@ use form::Match;
 use form::match_at;
 use table::form_bytes;
 use table::form_starts;
-
 pub use table::sample_form;
 
 // The place of the first line feed from a place on, or the end.

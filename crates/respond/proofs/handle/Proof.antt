@@ -1,35 +1,48 @@
+-- `respond::handle` meets its contract: its three parts, one after the other.
+-- Assumes nothing.
+use native.Mathlib.Omega.{arith}
+use denote.Ref.{now}
+use Rattle.respond.proofs.Buffers.{wrote-length}
+use Rattle.respond.proofs.Tails.{full-stays}
+use Rattle.respond.proofs.Whole.{carried-then, closed-then}
+use Rattle.respond.specs.Carrying.{begun}
 use borrow.Author.Needs.{needs}
 use Rattle.respond.proofs.handle.Statement.{statement}
 use Rattle.respond.proofs.handle.Tie as tie
-use Rattle.respond.proofs.handle.Reads as reads
-use Rattle.respond.proofs.handle.Lts as lts
-use Rattle.respond.proofs.on_samples.Reads as on-samples-reads
-use Rattle.respond.proofs.on_sheet.Reads as on-sheet-reads
-use Rattle.respond.proofs.tail.tail.Reads as tail-reads
 
--- src/lib.rt:85:9
 returns : tie.Need-returns
-returns c = ?
+returns c =
+    let a = c .before .before .before in
+    let s = now (a .args .s) in
+    let d = now (a .args .out) in
+    full-stays (a .args .ends) s d (begun (a .args .q)) (omega arith) (omega arith) (omega arith)
 
--- src/lib.rt:91:9
 on-sheet-requires : tie.Need-on-sheet-requires
 on-sheet-requires c κs = search needs
 
--- src/lib.rt:92:9
 on-samples-requires : tie.Need-on-samples-requires
-on-samples-requires c κs = ?
+on-samples-requires c κs =
+    let r = c .before .before .before .on-sheet .ensures in
+    let t = r .0 .stands in
+    (t .inside, omega (arith, r .0 .wrote .inside, wrote-length (r .0 .wrote)), t .fit, r .1)
 
--- src/lib.rt:93:5
 tail-requires : tie.Need-tail-requires
-tail-requires c κs = ?
+tail-requires c κs =
+    let r = c .before .before .before .on-samples .ensures in
+    let t = r .0 .stands in
+    (t .inside, omega (arith, r .0 .wrote .inside, wrote-length (r .0 .wrote)), t .fit, λ busy free. r .1 busy (omega (arith, wrote-length (r .0 .wrote))))
 
--- src/lib.rt:80:1
 same-length : tie.Need-same-length
 same-length c = search needs
 
--- src/lib.rt:80:1
 returns-2 : tie.Need-returns-2
-returns-2 c = ?
+returns-2 c =
+    let a = c .before .before .before .before .before .before .before .before .before .before .before .before .before .before .before in
+    let s = now (a .args .s) in
+    let d = now (a .args .out) in
+    let r = c .before .before .before .before .before .before .before .before .before .before .on-sheet in
+    let b = c .before .before .before .before .before .before .on-samples in
+    closed-then s d _ _ (begun (a .args .q)) (b .result) (carried-then s d _ _ (begun (a .args .q)) (r .result) (r .ensures .0) (b .result) (b .ensures .0)) (a .args .ends) (c .before .before .tail .result) (c .before .before .tail .ensures)
 
 pub handle-spec : {M : Type 1} → statement M
 handle-spec =

@@ -5,7 +5,6 @@ use Rattle.respond.proofs.sample_lines.fits.Statement.{statement}
 use Rattle.respond.proofs.sample_lines.fits.Tie as tie
 
 returns : tie.Need-returns
-
 returns c = rw (c .if1 .taken)
 
 returns-2 : tie.Need-returns-2

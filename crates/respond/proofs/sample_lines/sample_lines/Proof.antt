@@ -32,7 +32,7 @@ sample-form-requires : tie.Need-sample-form-requires Inv-loop μ-loop
 sample-form-requires c κs = search needs
 
 loop-holds : tie.Need-loop-holds Inv-loop μ-loop
-loop-holds c = 
+loop-holds c =
     let a = c .before .before .before .before .before .before .before in
     beginning (now (a .args .s)) (now (a .args .out)) (a .args .h) (a .pre .1) (a .pre .2) (a .pre .3) (a .pre .4)
 
@@ -52,7 +52,7 @@ answer-to-requires : tie.Need-answer-to-requires Inv-loop μ-loop
 answer-to-requires c κs = (c .before .before .before .before .before .before .before .before .before .before .before .before .before .pre .0, c .before .before .before .before .before .before .before .before .accepted .ensures)
 
 put-answer-requires : tie.Need-put-answer-requires Inv-loop μ-loop
-put-answer-requires c κs = 
+put-answer-requires c κs =
     let w = c .before .before .before .before .before .before .before .before .loop in
     let a = c .before .before .before .before .before .before .before .before .before .before .before .before .before .before .before .before .args in
     let s = now (a .s) in
@@ -65,7 +65,7 @@ add-line : tie.Need-add-line Inv-loop μ-loop
 add-line c = let f = c .before .before .before .before .before .before .before .before .before .before .before .loop .inv .carried .stands .fit in omega (arith, f .low, f .high)
 
 loop-less : tie.Need-loop-less Inv-loop μ-loop
-loop-less c = 
+loop-less c =
     let w = c .before .before .before .before .before .before .before .before .before .before .before .loop in
     let a = c .before .before .before .before .before .before .before .before .before .before .before .before .before .before .before .before .before .before .before .args in
     let s = now (a .s) in
@@ -78,7 +78,7 @@ loop-less c =
     rw (c .before .before .before .before .before .before .if1 .taken, c .before .before .before .before .before .before .before .before .before .before .loop-test .taken) (omega (arith, next, on .carried .stands .inside))
 
 loop-again : tie.Need-loop-again Inv-loop μ-loop
-loop-again c = 
+loop-again c =
     let w = c .before .before .before .before .before .before .before .before .before .before .before .loop in
     let a = c .before .before .before .before .before .before .before .before .before .before .before .before .before .before .before .before .before .before .before .args in
     let s = now (a .s) in
@@ -92,7 +92,7 @@ loop-less-2 : tie.Need-loop-less-2 Inv-loop μ-loop
 loop-less-2 c = rw (c .if1 .left, c .before .before .before .before .loop-test .taken) (omega arith)
 
 loop-again-2 : tie.Need-loop-again-2 Inv-loop μ-loop
-loop-again-2 c = 
+loop-again-2 c =
     let w = c .before .before .before .before .before .loop in
     let a = c .before .before .before .before .before .before .before .before .before .before .before .before .before .args in
     let s = now (a .s) in

@@ -39,11 +39,13 @@ returns : tie.Need-returns
 returns c = (rw (← c .before .before .before .read-whole .ensures, c .before .enum-told .given .1, c .stop .ensures), λ cause n e. rw (c .stop .ensures))
 
 returns-2 : tie.Need-returns-2
-returns-2 c = 
-    let told = c .before .before .before .enum-told2 .given .1 in
-    (rw (← c .before .before .before .before .before .read-whole .ensures, told, c .before .phase-after .ensures), λ cause n e.
-      let clash : SettingsCheck.Accepted ≡ SettingsCheck.Refused cause n = sym told ∙ e in
-      let z : _≡_ {A = ℕ} 0 1 = cc in absurd (omega arith))
+returns-2 c =
+    let told = c .before .before .before .enum-told2 .given .1 in (
+      rw (← c .before .before .before .before .before .read-whole .ensures, told, c .before .phase-after .ensures),
+      λ cause n e.
+          let clash : SettingsCheck.Accepted ≡ SettingsCheck.Refused cause n = sym told ∙ e in
+          let z : _≡_ {A = ℕ} 0 1 = cc in absurd (omega arith),
+    )
 
 pub sheet-line-spec : {M : Type 1} → statement M
 sheet-line-spec =

@@ -23,7 +23,7 @@ line-end-requires : tie.Need-line-end-requires Inv-loop μ-loop
 line-end-requires c κs = search needs
 
 returns : tie.Need-returns Inv-loop μ-loop
-returns c = 
+returns c =
     let w = c .before .before .before .before .loop in
     let a = c .before .before .before .before .before .before .args in
     let s = now (a .s) in
@@ -40,7 +40,7 @@ part-sheet-line-end : tie.Need-part-sheet-line-end Inv-loop μ-loop
 part-sheet-line-end c = search needs
 
 sheet-line-requires : tie.Need-sheet-line-requires Inv-loop μ-loop
-sheet-line-requires c κs = 
+sheet-line-requires c κs =
     let w = c .before .before .before .before .before .loop in
     let a = c .before .before .before .before .before .before .before .args in
     let s = now (a .s) in
@@ -57,7 +57,7 @@ loop-less : tie.Need-loop-less Inv-loop μ-loop
 loop-less c = search needs
 
 loop-again : tie.Need-loop-again Inv-loop μ-loop
-loop-again c = 
+loop-again c =
     let w = c .before .before .before .before .before .before .before .before .before .loop in
     let a = c .before .before .before .before .before .before .before .before .before .before .before .args in
     let s = now (a .s) in
@@ -69,7 +69,7 @@ enum-told-2 : tie.Need-enum-told-2 Inv-loop μ-loop
 enum-told-2 c = search needs
 
 returns-2 : tie.Need-returns-2 Inv-loop μ-loop
-returns-2 c = 
+returns-2 c =
     let w = c .before .before .before .before .before .before .before .before .before .loop in
     let a = c .before .before .before .before .before .before .before .before .before .before .before .args in
     let s = now (a .s) in
@@ -78,7 +78,7 @@ returns-2 c =
     refused (a .q) s (w .state) (w .at) (end .result) (w .inv) (c .before .before .before .before .before .before .before .if1 .taken) (end .ensures .0) (end .ensures .1) (omega arith) (r .result .state) (r .result .check) (r .ensures .0) _ _ (c .enum-told2 .given .1) (r .ensures .1 _ _ (c .enum-told2 .given .1))
 
 returns-3 : tie.Need-returns-3 Inv-loop μ-loop
-returns-3 c = 
+returns-3 c =
     let w = c .before .before .loop in
     let a = c .before .before .before .before .args in
     let s = now (a .s) in

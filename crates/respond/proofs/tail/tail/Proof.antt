@@ -1,60 +1,73 @@
+-- `respond::tail::tail` meets its contract.
+-- Assumes nothing.
+use mathlib.Core.Path.{sym, _∙_}
+use native.Mathlib.Omega.{arith}
+use denote.Ref.{now}
+use Rattle.respond.proofs.Tails.{done-stays, full-stays, closes, drops, waits}
 use borrow.Author.Needs.{needs}
 use Rattle.respond.proofs.tail.tail.Statement.{statement}
 use Rattle.respond.proofs.tail.tail.Tie as tie
-use Rattle.respond.proofs.tail.tail.Reads as reads
-use Rattle.respond.proofs.tail.tail.Lts as lts
-use Rattle.respond.proofs.state.either.Reads as either-reads
-use Rattle.respond.proofs.state.stop.Reads as stop-reads
-use Rattle.respond.proofs.tail.drop_bytes.Reads as drop-bytes-reads
-use Rattle.respond.proofs.tail.put_end.Reads as put-end-reads
 
--- src/tail.rt:67:9
 returns : tie.Need-returns
-returns c = ?
+returns c =
+    let a = c .before .before .before .before in
+    let s = now (a .args .s) in
+    let d = now (a .args .out) in
+    let h = a .args .h in
+    done-stays (a .args .ends) s d h (a .pre .0) (a .pre .1) (c .if1 .taken)
 
--- src/tail.rt:69:8
 sub-if2 : tie.Need-sub-if2
 sub-if2 c = search needs
 
--- src/tail.rt:70:9
 returns-2 : tie.Need-returns-2
-returns-2 c = ?
+returns-2 c =
+    let a = c .before .before .before .before .before in
+    let s = now (a .args .s) in
+    let d = now (a .args .out) in
+    let h = a .args .h in
+    full-stays (a .args .ends) s d h (a .pre .0) (a .pre .1) (omega arith)
 
--- src/tail.rt:72:13
 sub-n : tie.Need-sub-n
 sub-n c = search needs
 
--- src/tail.rt:74:13
 put-end-requires : tie.Need-put-end-requires
 put-end-requires c κs = search needs
 
--- src/tail.rt:75:13
 stop-requires : tie.Need-stop-requires
 stop-requires c κs = search needs
 
--- src/tail.rt:76:9
 same-length : tie.Need-same-length
 same-length c = search needs
 
--- src/tail.rt:76:9
 returns-3 : tie.Need-returns-3
-returns-3 c = ?
+returns-3 c =
+    let a = c .before .before .before .before .before .before .before .before .before .before .before in
+    let s = now (a .args .s) in
+    let d = now (a .args .out) in
+    let h = a .args .h in
+    closes (a .args .ends) s d h (a .pre .0) (a .pre .1) (omega arith) (omega arith) (a .pre .3) (c .before .before .before .before .before .if3 .taken) _ _ (c .before .before .before .put-end .ensures) (c .stop .result) (c .stop .ensures)
 
--- src/tail.rt:82:9
 either-requires : tie.Need-either-requires
 either-requires c κs = search needs
 
--- src/tail.rt:84:13
 drop-bytes-requires : tie.Need-drop-bytes-requires
 drop-bytes-requires c κs = search needs
 
--- src/tail.rt:85:9
 returns-4 : tie.Need-returns-4
-returns-4 c = ?
+returns-4 c =
+    let a = c .before .before .before .before .before .before .before .before .before in
+    let s = now (a .args .s) in
+    let d = now (a .args .out) in
+    let h = a .args .h in
+    drops (a .args .ends) s d h (a .pre .0) (a .pre .1) (omega arith) (omega arith) (a .pre .3) (c .before .before .before .if3 .left) (sym (c .before .before .either .ensures) ∙ c .before .if4 .taken) (c .drop-bytes .result) (c .drop-bytes .ensures)
 
--- src/tail.rt:56:1
 returns-5 : tie.Need-returns-5
-returns-5 c = ?
+returns-5 c =
+    let a = c .before .before .before .before .before .before .before .before in
+    let s = now (a .args .s) in
+    let d = now (a .args .out) in
+    let h = a .args .h in
+    waits (a .args .ends) s d h (a .pre .0) (a .pre .1) (omega arith) (omega arith) (a .pre .3) (c .before .before .if3 .left) (sym (c .before .either .ensures) ∙ c .if4 .left)
 
 pub tail-spec : {M : Type 1} → statement M
 tail-spec =
