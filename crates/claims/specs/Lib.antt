@@ -2,5 +2,6 @@ pub mod Calls
 pub mod Held
 pub mod Sound
 pub mod FirstCause
+pub mod SheetCauses
 pub mod TripAndReturn
 pub mod TwoHistories

@@ -4,15 +4,19 @@ use native.Mathlib.Omega.{arith}
 use Rattle.rules.specs.Regions.{ourEquipment}
 use Rattle.roots.proofs.Voltages.{voltage-root}
 use Rattle.laws.proofs.FirstCause.{refuses-rightly}
+use Rattle.laws.proofs.SheetCauses.{sheets-refused-rightly}
 use Rattle.laws.proofs.Demand2.{demand2, counter-rule}
 use Rattle.laws.proofs.Demand3.{demand3}
-use Rattle.demands.specs.Demands.{OurRefusals, OurTripAndReturn, OurTwoHistories, EveryCounter, SensingRule, StarredEdges, ShamsCaught, ShamImagesCaught, AnyTripAndReturn, AnyTwoHistories, OurEquipmentSound}
+use Rattle.demands.specs.Demands.{OurRefusals, OurSheetRefusals, OurTripAndReturn, OurTwoHistories, EveryCounter, SensingRule, StarredEdges, ShamsCaught, ShamImagesCaught, AnyTripAndReturn, AnyTwoHistories, OurEquipmentSound}
 use Rattle.demands.proofs.Edges.{edges-hold}
 use Rattle.demands.proofs.Sound.{our-equipment-sound}
 use Rattle.demands.proofs.Shams.{early, invented, tripped, repeated, kept, refusing, no-ramp, no-ninth, no-bits}
 
 pub ourRefusals : OurRefusals
 ourRefusals = refuses-rightly ourEquipment
+
+pub ourSheetRefusals : OurSheetRefusals
+ourSheetRefusals = sheets-refused-rightly
 
 pub ourTripAndReturn : OurTripAndReturn
 ourTripAndReturn = demand2 ourEquipment our-equipment-sound

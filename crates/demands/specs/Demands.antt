@@ -2,9 +2,10 @@
 --
 -- `ours` is what the code's contracts promise, and a demand holds of the code through them. `fresh` is the result of `service::fresh`,
 -- `stepOf ourEquipment` that of `service::step::step` (and of `host::step` on a lent record), `saveCheck` and `savedInto` those of
--- `image::save` (and of `host::save`), `settingsCheck` that of `settings::check`, `sensed` that of `sensing::sense`. Each of those contracts is
--- proved in its crate for every record, settings, slice, code and buffer there can be. `ourEquipment` is document 01's sensing rule and
--- the Category III voltage regions. The words of the statements are defined in the crates `claims` and `rules`.
+-- `image::save` (and of `host::save`), `settingsCheck` that of `settings::check`, `sensed` that of `sensing::sense`, `readSheet` and `handedBack`
+-- those of `reader::read_sheet` (and of `sheet::read` and `sheet::part`). Each of those contracts is proved in its crate for every record,
+-- settings, slice, code, buffer and text there can be. `ourEquipment` is document 01's sensing rule and the Category III voltage
+-- regions. The words of the statements are defined in the crates `claims` and `rules`.
 -- Assumes nothing.
 use Prim.Native.Nat.{ℕ, _*_, _≤_}
 use Rattle.rules.specs.Sensing.{lastCode, voltage}
@@ -17,6 +18,7 @@ use Rattle.roots.specs.Root.{IsRoot}
 use Rattle.claims.specs.Calls.{Program, ruledBy}
 use Rattle.claims.specs.Sound.{Sound}
 use Rattle.claims.specs.FirstCause.{RefusesRightly}
+use Rattle.claims.specs.SheetCauses.{SheetsRefusedRightly}
 use Rattle.claims.specs.TripAndReturn.{TripAndReturn, CounterRule, Demand2}
 use Rattle.claims.specs.TwoHistories.{TwoHistoriesBy, Demand3}
 use Rattle.demands.specs.Edges.{EdgesHold}
@@ -29,11 +31,16 @@ ours = ruledBy ourEquipment
 
 -- Demand 1, for the library: `RefusesRightly` in claims/specs/FirstCause.antt. Checking settings, sensing, the step and the saving refuse with n
 -- exactly when n is the first cause in document 01's order, accept input with none of the causes, and a refusal leaves the record and
--- every lent byte as they were. (Reading a sheet, cause 1, is the contract of `sheet::read`, an equation
--- with `readSheet`; its statement here comes with the program. That the operations stay inside their buffers and
--- their arithmetic and end is part of each function's own proof.)
+-- every lent byte as they were. (That the operations stay inside their buffers and their arithmetic and end is part of each function's own
+-- proof.)
 abbrev pub OurRefusals : Type 0
 OurRefusals = RefusesRightly ourEquipment
+
+-- Demand 1, for reading a sheet: `SheetsRefusedRightly` in claims/specs/SheetCauses.antt. Any text is refused with n at a line exactly when that is the
+-- first line with a cause and n the first of its causes 1, 2, 3, and accepted exactly when none of the thirteen lines has a cause; what is
+-- handed back is that line of the text, or what follows an accepted sheet.
+abbrev pub OurSheetRefusals : Type 0
+OurSheetRefusals = SheetsRefusedRightly
 
 -- Demand 2: `TripAndReturn` in claims/specs/TripAndReturn.antt. Under every accepted sheet, for every list of step calls, refused ones
 -- included, on one record from a fresh board: the last report is the one that the accepted samples alone give, in their order, and so

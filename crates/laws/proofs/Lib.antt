@@ -12,3 +12,4 @@ pub mod Images
 pub mod Curves
 pub mod Demand3
 pub mod FirstCause
+pub mod SheetCauses

@@ -5,7 +5,7 @@ ghost use lib.ListN.{length};
 ghost use Rattle.rules.specs.Sheets.{readSheet};
 ghost use Rattle.sheet.specs.Storing.{lineRead};
 ghost use Rattle.sheet.specs.Outcomes.{Gives};
-ghost use Rattle.sheet.specs.Parts.{IsPart};
+ghost use Rattle.sheet.specs.Parts.{IsPart, IsPartFrom};
 
 mod storing;
 
@@ -100,22 +100,31 @@ pub fn read(s: &[u8]) -> SheetOutcome
     }
 }
 
-// The part of the caller's own bytes that reading a sheet hands back: the refused line without its line feed, a missing one
-// the empty part at the end; or what follows an accepted sheet.
-pub fn part(s: &[u8]) -> &[u8]
-    ensures { λ r. ⌜ IsPart (s .entry) r ⌝ }
+// The part of the caller's own bytes from a place on, the end at the latest: where a line is refused, that line without its line feed;
+// else all that follows.
+pub fn part_from(s: &[u8], check: SettingsCheck, start: usize) -> &[u8]
+    ensures { λ r. ⌜ IsPartFrom check start (s .entry) r ⌝ }
 {
-    let outcome = read(s);
-    let start = outcome.start;
-    let check = outcome.check;
+    let n = s.len();
+    if start > n {
+        return &s[n..n];
+    }
     match check {
-        SettingsCheck::Accepted => {
-            let end = s.len();
-            &s[start..end]
-        }
+        SettingsCheck::Accepted => &s[start..n],
         SettingsCheck::Refused(_, _) => {
             let end = line_end(s, start);
             &s[start..end]
         }
     }
+}
+
+// The part that reading a sheet hands back: the refused line without its line feed, a missing one the empty part at the end; or
+// what follows an accepted sheet.
+pub fn part(s: &[u8]) -> &[u8]
+    ensures { λ r. ⌜ IsPart (s .entry) r ⌝ }
+{
+    let outcome = read(s);
+    let check = outcome.check;
+    let start = outcome.start;
+    part_from(s, check, start)
 }

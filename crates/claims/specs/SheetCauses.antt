@@ -1,0 +1,76 @@
+-- Demand 1, for reading a sheet: document 01, "Turned-away input". Each line's causes stand by themselves, by the line's place in the text and
+-- not by a run of the reader. Lines are counted from 0.
+-- Assumes nothing.
+use mathlib.Core.Path.{_≡_}
+use mathlib.Core.Bool.{true, false, cond, not}
+use mathlib.Core.List.{List, [], _∷_, map}
+use mathlib.Core.Logic.{_↔_}
+use mathlib.Core.Option.{Option, none, some}
+use Prim.Native.Nat.{ℕ, zero, suc, _+_, _<_}
+use lib.IntN.{ℤ}
+use lib.ListN.{getD}
+use Rattle.rules.specs.Tests.{all}
+use Rattle.rules.specs.Text.{firstLine, hasFeed, afterLine}
+use Rattle.rules.specs.Forms.{sheetForms, numbersOf}
+use Rattle.rules.specs.Settings.{Pair, Row, row, rows, inRow, rising}
+use Rattle.rules.specs.Refusals.{settingsNumber}
+use Rattle.rules.specs.Sheets.{pairs, settingsOf, readSheet, handedBack}
+use Rattle.rules.specs.declared.SettingsCheck.{SettingsCheck}
+use Rattle.claims.specs.FirstCause.{Cause, cause, first, lineOf}
+
+-- ---- a line of a text
+
+-- the text from line i on; nothing where it has no such line
+abbrev pub fromLine : ℕ → List ℕ → List ℕ
+fromLine zero s = s
+fromLine (suc i) s = fromLine i (afterLine s)
+
+-- the numbers of a text's first line, where it is ended and of the form
+abbrev pub numbersBy : List ℕ → List ℕ → Option (List ℤ)
+numbersBy form s = cond (hasFeed s) (numbersOf form (firstLine s)) none
+
+-- "each for 1, 2, 3": a line's causes, by its row and by its numbers
+abbrev pub causesBy : Row → Option (List ℤ) → List Cause
+causesBy r none = cause 1 true ∷ []
+causesBy r (some ns) = cause 1 false ∷ cause 2 (not (all (map (inRow r) (pairs ns)))) ∷ cause 3 (not (rising (pairs ns))) ∷ []
+
+-- the numbers two by two
+abbrev pub pairsBy : Option (List ℤ) → List Pair
+pairsBy none = []
+pairsBy (some ns) = pairs ns
+
+-- ---- line i of a sheet, by these rows and forms
+
+abbrev pub numbersAt : List (List ℕ) → ℕ → List ℕ → Option (List ℤ)
+numbersAt forms i s = numbersBy (getD forms i []) (fromLine i s)
+
+abbrev pub causeAt : List Row → List (List ℕ) → ℕ → List ℕ → ℕ
+causeAt rs forms i s = first (causesBy (getD rs i (row 0 0 0 0)) (numbersAt forms i s))
+
+-- the number of its first cause, 0 where it has none
+unfoldable pub lineCause : ℕ → List ℕ → ℕ
+lineCause i s = causeAt rows sheetForms i s
+
+unfoldable pub linePairs : ℕ → List ℕ → List Pair
+linePairs i s = pairsBy (numbersAt sheetForms i s)
+
+-- ---- what is claimed
+
+-- n is the first cause of line i, and no line before it has a cause
+pub record FirstCauseAt (s : List ℕ) (i n : ℕ) : Type 0 where
+  pub line : i < 13
+  pub here : lineCause i s ≡ n
+  pub before : (k : ℕ) → k < i → lineCause k s ≡ 0
+
+-- of every text s: reading it refuses with n at a line exactly when that is the first line with a cause and n the line's first cause, in document 01's
+-- order; and accepts exactly when no line has a cause
+pub record SheetsRefusedRightly : Type 0 where
+  pub refuses : (s : List ℕ) (i n : ℕ) → 0 < n → ((settingsNumber (readSheet s .check) ≡ n) × (lineOf (readSheet s .check) ≡ i + 1)) ↔ FirstCauseAt s i n
+  pub accepts : (s : List ℕ) → (readSheet s .check ≡ SettingsCheck.Accepted) ↔ ((i : ℕ) → i < 13 → lineCause i s ≡ 0)
+  -- the settings of an accepted sheet are its thirteen lines' numbers, those of a refused one all 0
+  pub settings : (s : List ℕ) → readSheet s .check ≡ SettingsCheck.Accepted
+      → readSheet s .settings ≡ settingsOf (map (λ i. linePairs i s) (0 ∷ 1 ∷ 2 ∷ 3 ∷ 4 ∷ 5 ∷ 6 ∷ 7 ∷ 8 ∷ 9 ∷ 10 ∷ 11 ∷ 12 ∷ []))
+  pub no-settings : (s : List ℕ) → 0 < settingsNumber (readSheet s .check) → readSheet s .settings ≡ settingsOf []
+  -- "hands back the refused line [..] without its line feed; a missing line is the empty part at the end"
+  pub back : (s : List ℕ) (i n : ℕ) → 0 < n → FirstCauseAt s i n → handedBack s ≡ firstLine (fromLine i s)
+  pub rest : (s : List ℕ) → readSheet s .check ≡ SettingsCheck.Accepted → handedBack s ≡ fromLine 13 s
