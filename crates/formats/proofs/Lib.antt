@@ -2,3 +2,8 @@ pub mod Digits
 pub mod Numbers
 pub mod Forms
 pub mod Samples
+pub mod Feeds
+pub mod Rows
+pub mod Lines
+pub mod Settings
+pub mod Sheets
