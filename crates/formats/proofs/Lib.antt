@@ -1,8 +1,9 @@
+pub mod Places
 pub mod Digits
 pub mod Numbers
 pub mod Forms
-pub mod Samples
 pub mod Feeds
+pub mod Samples
 pub mod Rows
 pub mod Lines
 pub mod Settings

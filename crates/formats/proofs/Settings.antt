@@ -3,7 +3,7 @@
 use mathlib.Core.Path.{_≡_, refl, ap, ap₂, _∙_}
 use mathlib.Core.Bool.{Bool, true, false, cond, _&&_, _||_, false≢true}
 use mathlib.Core.List.{List, [], _∷_, _++_, map, append-assoc}
-use Prim.Native.Nat.{ℕ, zero, suc, _*_}
+use Prim.Native.Nat.{ℕ, suc, _*_}
 use native.Mathlib.Numerals.{add-one}
 use native.Mathlib.Omega.{arith}
 use borrow.Author.Tests.{eqb-true}
@@ -21,37 +21,16 @@ use Rattle.rules.specs.declared.Point.{Point}
 use Rattle.rules.specs.declared.Settings.{Settings}
 use Rattle.formats.specs.Marks.{marks}
 use Rattle.formats.specs.Sheets.{numbersIn, Complete}
+use Rattle.formats.proofs.Places.{counted, counted-all, counted-same}
 use Rattle.formats.proofs.Digits.{both}
 use Rattle.formats.proofs.Forms.{suits-length}
 use Rattle.formats.proofs.Rows.{two-each, inside}
 use Rattle.formats.proofs.Lines.{GoodLine, GoodLines, end, more}
 
--- ---- a list by its places
-
--- n elements of f, counted from i
-abbrev counted : {A : Type 0} → (ℕ → A) → ℕ → ℕ → List A
-counted f i zero = []
-counted f i (suc n) = f i ∷ counted f (suc i) n
-
-module _ {A B : Type 0} (f : A → B) (d : A) where
-  counted-after : (before l : List A) → counted (λ k. f (getD (before ++ l) k d)) (length before) (length l) ≡ map f l
-  counted-after before [] = refl
-  counted-after before (x ∷ l) =
-      let longer : length (before ++ (x ∷ [])) ≡ suc (length before) = length-append before (x ∷ []) ∙ add-one (length before) in
-      ap₂ (λ (y : B) (ys : List B). y ∷ ys) (ap f (getD-append-seam before x l d))
-      (rw (longer, append-assoc before (x ∷ []) l) at (counted-after (before ++ (x ∷ [])) l))
-
-  pub counted-all : (n : ℕ) (l : List A) → length l ≡ n → counted (λ k. f (getD l k d)) 0 n ≡ map f l
-  counted-all n l e = rw (← e) (counted-after [] l)
-
 -- ---- settings from their lines
 
 abbrev noPair : Pair
 noPair = pair (pos 0) (pos 0)
-
-map-same : {A : Type 0} (l : List A) → map (λ (x : A). x) l ≡ l
-map-same [] = refl
-map-same (x ∷ l) = ap (λ (k : List _). x ∷ k) (map-same l)
 
 points-back : (l : List Point) → map pointOf (map pointPair l) ≡ l
 points-back [] = refl
@@ -61,7 +40,7 @@ points-all : (n : ℕ) (l : List Point) → length l ≡ n → counted (λ k. po
 points-all n l e = counted-all pointOf noPair n (map pointPair l) (length-map l pointPair ∙ e) ∙ points-back l
 
 limits-all : (l : List Limit) → length l ≡ 8 → counted (λ k. getD l k noLimit) 0 8 ≡ l
-limits-all l e = counted-all (λ (x : Limit). x) noLimit 8 l e ∙ map-same l
+limits-all l e = counted-same noLimit 8 l e
 
 pub settings-back : (st : Settings) → Complete st → settingsOf (linesOf st) ≡ st
 unfolding settingsOf linesOf

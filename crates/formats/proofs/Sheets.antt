@@ -8,15 +8,16 @@ use Prim.Native.Nat.{ℕ}
 use native.Mathlib.Nat.{zero-add}
 use lib.ListN.{length, drop, length-map}
 use lib.Seq.{drop-append-seam}
-use Rattle.rules.specs.Tests.{within}
-use Rattle.rules.specs.Text.{hasFeed}
-use Rattle.rules.specs.Forms.{sheetForms}
-use Rattle.rules.specs.Settings.{rows, pointPair, linesOf, settingsCheck, isAccepted, settingsAccepted}
-use Rattle.rules.specs.Sheets.{readSheet}
+use Rattle.rules.specs.Tests.{all, within}
+use Rattle.rules.specs.Text.{decimal, signedDecimal, digitsBefore, leadingDigits, afterDigits, valueAfter, wellFormed, takeNumber, takeSigned, firstLine, hasFeed, afterLine}
+use Rattle.rules.specs.Forms.{sheetForms, numbersOf}
+use Rattle.rules.specs.Settings.{rows, inRow, rising, pointPair, linesOf, settingsCheck, isAccepted, settingsAccepted}
+use Rattle.rules.specs.Sheets.{settingsOf, SheetReading, readFrom, readSheet}
+use Rattle.rules.specs.Defaults.{defaultSheet, defaultSettings}
 use Rattle.rules.specs.declared.Settings.{Settings}
 use Rattle.rules.specs.declared.SettingsCheck.{SettingsCheck}
-use Rattle.formats.specs.Marks.{marks}
-use Rattle.formats.specs.Sheets.{writtenLines, writtenSheet, Complete, BeginsWithSheet}
+use Rattle.formats.specs.Marks.{marks, written}
+use Rattle.formats.specs.Sheets.{writtenLines, writtenSheet, Complete, BeginsWithSheet, ReadsSheetsBack, AcceptsSheetsOnly, AcceptAlike}
 use Rattle.formats.proofs.Forms.{separated}
 use Rattle.formats.proofs.Rows.{endsFit, two-each}
 use Rattle.formats.proofs.Lines.{GoodLines, agree, accepting, amount, good-checked, checked-good, good-read, Begun, accepted-begun}
@@ -41,8 +42,7 @@ good-lines : (st : Settings) → Complete st → settingsAccepted st ≡ true �
 unfolding settingsCheck
 good-lines st c e = checked-good 1 rows sheetForms (linesOf st) rows-agree (amounts st c) (was-accepted (settingsCheck st) e)
 
-pub sheet-read-back : (st : Settings) (after : List ℕ) → Complete st → settingsAccepted st ≡ true
-    → readSheet (writtenSheet st ++ after) ≡ record { check = SettingsCheck.Accepted; settings = st; start = length (writtenSheet st) }
+pub sheet-read-back : ReadsSheetsBack readSheet
 unfolding readSheet writtenSheet
 sheet-read-back st after c e =
     good-read rows-agree (good-lines st c e) 1 0 [] after
@@ -69,8 +69,34 @@ module _ (s : List ℕ) (b : Begun rows sheetForms s) where
         text = rw (same, rest) (b .text);
       }
 
-pub sheet-written-out : (s : List ℕ) → readSheet s .check ≡ SettingsCheck.Accepted → BeginsWithSheet s (readSheet s)
+pub sheet-written-out : AcceptsSheetsOnly readSheet
 unfolding readSheet
 sheet-written-out s e =
     let b = accepted-begun rows sheetForms rows-agree 1 0 [] s e in
     subst (BeginsWithSheet s) (sym (reading s b)) (begins-with s b)
+
+-- ---- the two together leave no choice
+
+module _ (f g : List ℕ → SheetReading) (back : ReadsSheetsBack g) (out : AcceptsSheetsOnly f) (s : List ℕ) where
+  accepted-same : f s .check ≡ SettingsCheck.Accepted → f s ≡ g s
+  accepted-same e =
+      let b = out s e in
+      let st = f s .settings in
+      let left : f s ≡ record { check = SettingsCheck.Accepted; settings = st; start = length (writtenSheet st) }
+      = ap₂ (λ (check : SettingsCheck) (start : ℕ). record { check = check; settings = st; start = start }) e (b .start) in
+      left ∙ sym (ap g (b .text) ∙ back st (drop (f s .start) s) (b .complete) (b .accepted))
+
+pub one-reading : (read : List ℕ → SheetReading) → ReadsSheetsBack read → AcceptsSheetsOnly read → (s : List ℕ) → AcceptAlike (read s) (readSheet s)
+one-reading read back out s =
+    let there = accepted-same read readSheet sheet-read-back out s in
+    let again = accepted-same readSheet read back sheet-written-out s in
+    record {
+      both = (λ e. sym (ap (λ (r : SheetReading). r .check) (there e)) ∙ e, λ e. sym (ap (λ (r : SheetReading). r .check) (again e)) ∙ e);
+      same = there;
+    }
+
+-- ---- document 01's default sheet
+
+pub default-written : writtenSheet defaultSettings ≡ defaultSheet
+unfolding writtenSheet writtenLines written defaultSettings defaultSheet sheetForms linesOf settingsOf readSheet readFrom numbersOf takeNumber takeSigned leadingDigits afterDigits valueAfter wellFormed within firstLine hasFeed afterLine rows inRow rising all decimal signedDecimal digitsBefore
+default-written = refl

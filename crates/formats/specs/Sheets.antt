@@ -2,6 +2,7 @@
 -- Assumes nothing.
 use mathlib.Core.Path.{_≡_}
 use mathlib.Core.Bool.{true}
+use mathlib.Core.Logic.{_↔_}
 use mathlib.Core.List.{List, [], _∷_, _++_}
 use Prim.Native.Nat.{ℕ}
 use lib.IntN.{ℤ}
@@ -11,6 +12,7 @@ use Rattle.rules.specs.Forms.{sheetForms}
 use Rattle.rules.specs.Settings.{Pair, linesOf, settingsAccepted}
 use Rattle.rules.specs.Sheets.{SheetReading}
 use Rattle.rules.specs.declared.Settings.{Settings}
+use Rattle.rules.specs.declared.SettingsCheck.{SettingsCheck}
 use Rattle.formats.specs.Marks.{written}
 
 -- the numbers of a line, one after the other
@@ -41,3 +43,20 @@ pub record BeginsWithSheet (s : List ℕ) (r : SheetReading) : Type 0 where
   pub accepted : settingsAccepted (r .settings) ≡ true
   pub start : r .start ≡ length (writtenSheet (r .settings))
   pub text : s ≡ writtenSheet (r .settings) ++ drop (r .start) s
+
+-- ---- what is asked of a reading of sheets, without a parser
+
+-- complete settings that 2 and 3 pass are read back from their writing-out, whatever bytes follow it
+abbrev pub ReadsSheetsBack : (List ℕ → SheetReading) → Type 0
+ReadsSheetsBack read =
+    (st : Settings) (after : List ℕ) → Complete st → settingsAccepted st ≡ true
+    → read (writtenSheet st ++ after) ≡ record { check = SettingsCheck.Accepted; settings = st; start = length (writtenSheet st) }
+
+-- every text that is accepted begins with such a writing-out
+abbrev pub AcceptsSheetsOnly : (List ℕ → SheetReading) → Type 0
+AcceptsSheetsOnly read = (s : List ℕ) → read s .check ≡ SettingsCheck.Accepted → BeginsWithSheet s (read s)
+
+-- two readings of a text accept it or do not, and where they accept it give the same settings and place
+pub record AcceptAlike (a b : SheetReading) : Type 0 where
+  pub both : (a .check ≡ SettingsCheck.Accepted) ↔ (b .check ≡ SettingsCheck.Accepted)
+  pub same : a .check ≡ SettingsCheck.Accepted → a ≡ b
