@@ -2,12 +2,16 @@
 -- Assumes nothing.
 use native.Mathlib.Omega.{arith}
 use Rattle.rules.specs.Regions.{ourEquipment}
+use Rattle.rules.specs.Sheets.{readSheet}
 use Rattle.roots.proofs.Voltages.{voltage-root}
 use Rattle.laws.proofs.FirstCause.{refuses-rightly}
 use Rattle.laws.proofs.Demand2.{demand2, counter-rule}
 use Rattle.laws.proofs.Demand3.{demand3}
-use Rattle.demands.specs.Demands.{OurRefusals, OurTripAndReturn, OurTwoHistories, EveryCounter, SensingRule, StarredEdges, ShamsCaught, ShamImagesCaught, AnyTripAndReturn, AnyTwoHistories, OurEquipmentSound}
+use Rattle.formats.proofs.Sheets.{sheet-read-back, sheet-written-out, one-reading, default-written}
+use Rattle.formats.proofs.Samples.{sample-reads-back, sample-written-out}
+use Rattle.demands.specs.Demands.{OurRefusals, OurTripAndReturn, OurTwoHistories, SheetsReadBack, SheetsWrittenOut, OneSheetReading, DefaultSheetWritten, UnderAcceptedTexts, SampleLinesReadBack, SampleLinesWrittenOut, AcceptedSamplesWritable, EveryCounter, SensingRule, StarredEdges, ShamsCaught, ShamImagesCaught, AnyTripAndReturn, AnyTwoHistories, OurEquipmentSound}
 use Rattle.demands.proofs.Edges.{edges-hold}
+use Rattle.demands.proofs.Writable.{accepted-writable}
 use Rattle.demands.proofs.Sound.{our-equipment-sound}
 use Rattle.demands.proofs.Shams.{early, invented, tripped, repeated, kept, refusing, no-ramp, no-ninth, no-bits}
 
@@ -19,6 +23,32 @@ ourTripAndReturn = demand2 ourEquipment our-equipment-sound
 
 pub ourTwoHistories : OurTwoHistories
 ourTwoHistories = demand3 ourEquipment our-equipment-sound
+
+pub sheetsReadBack : SheetsReadBack
+sheetsReadBack = sheet-read-back
+
+pub sheetsWrittenOut : SheetsWrittenOut
+sheetsWrittenOut = sheet-written-out
+
+pub oneSheetReading : OneSheetReading
+oneSheetReading = one-reading
+
+pub defaultSheetWritten : DefaultSheetWritten
+defaultSheetWritten = default-written
+
+pub underAcceptedTexts : UnderAcceptedTexts
+underAcceptedTexts s e =
+    let a = sheet-written-out s e .accepted in
+    record { accepted = a; demand2 = ourTripAndReturn (readSheet s .settings) a; demand3 = ourTwoHistories (readSheet s .settings) a }
+
+pub sampleLinesReadBack : SampleLinesReadBack
+sampleLinesReadBack = sample-reads-back
+
+pub sampleLinesWrittenOut : SampleLinesWrittenOut
+sampleLinesWrittenOut = sample-written-out
+
+pub acceptedSamplesWritable : AcceptedSamplesWritable
+acceptedSamplesWritable = accepted-writable
 
 pub everyCounter : EveryCounter
 everyCounter = counter-rule

@@ -2,4 +2,5 @@ pub mod Edges
 pub mod Sound
 pub mod ShamReport
 pub mod Shams
+pub mod Writable
 pub mod Demands
