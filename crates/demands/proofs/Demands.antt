@@ -9,11 +9,12 @@ use Rattle.laws.proofs.Demand2.{demand2, counter-rule}
 use Rattle.laws.proofs.Demand3.{demand3}
 use Rattle.formats.proofs.Sheets.{sheet-read-back, sheet-written-out, one-reading, default-written}
 use Rattle.formats.proofs.Samples.{sample-reads-back, sample-written-out}
-use Rattle.demands.specs.Demands.{OurRefusals, OurTripAndReturn, OurTwoHistories, SheetsReadBack, SheetsWrittenOut, OneSheetReading, DefaultSheetWritten, UnderAcceptedTexts, SampleLinesReadBack, SampleLinesWrittenOut, AcceptedSamplesWritable, EveryCounter, SensingRule, StarredEdges, ShamsCaught, ShamImagesCaught, AnyTripAndReturn, AnyTwoHistories, OurEquipmentSound}
+use Rattle.demands.specs.Demands.{OurRefusals, OurTripAndReturn, OurTwoHistories, SheetsReadBack, SheetsWrittenOut, OneSheetReading, DefaultSheetWritten, UnderAcceptedTexts, SampleLinesReadBack, SampleLinesWrittenOut, AcceptedSamplesWritable, EveryCounter, SensingRule, StarredEdges, ShamsCaught, ShamImagesCaught, ShamReadingsCaught, AnyTripAndReturn, AnyTwoHistories, OurEquipmentSound}
 use Rattle.demands.proofs.Edges.{edges-hold}
 use Rattle.demands.proofs.Writable.{accepted-writable}
 use Rattle.demands.proofs.Sound.{our-equipment-sound}
 use Rattle.demands.proofs.Shams.{early, invented, tripped, repeated, kept, refusing, no-ramp, no-ninth, no-bits}
+use Rattle.demands.proofs.ShamReadings.{turned-away, let-in}
 
 pub ourRefusals : OurRefusals
 ourRefusals = refuses-rightly ourEquipment
@@ -64,6 +65,9 @@ shamsCaught = record { early = early; invented = invented; tripped = tripped; re
 
 pub shamImagesCaught : ShamImagesCaught
 shamImagesCaught = record { ramp = no-ramp; ninth = no-ninth; bits = no-bits }
+
+pub shamReadingsCaught : ShamReadingsCaught
+shamReadingsCaught = record { turnedAway = turned-away; unended = let-in }
 
 pub anyTripAndReturn : AnyTripAndReturn
 anyTripAndReturn e sound = demand2 e sound

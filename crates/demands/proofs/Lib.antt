@@ -3,4 +3,5 @@ pub mod Sound
 pub mod ShamReport
 pub mod Shams
 pub mod Writable
+pub mod ShamReadings
 pub mod Demands

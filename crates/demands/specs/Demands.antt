@@ -34,7 +34,7 @@ use Rattle.claims.specs.FirstCause.{RefusesRightly}
 use Rattle.claims.specs.TripAndReturn.{TripAndReturn, CounterRule, Demand2}
 use Rattle.claims.specs.TwoHistories.{TwoHistoriesBy, Demand3}
 use Rattle.demands.specs.Edges.{EdgesHold}
-use Rattle.demands.specs.Shams.{exampleSheet, tripsEarly, inventsCounters, alwaysTripped, repeatsFirst, keepsRecord, turnsAway, savedWithoutRamp, savedWithoutNinth, reportWithoutBits}
+use Rattle.demands.specs.Shams.{exampleSheet, tripsEarly, inventsCounters, alwaysTripped, repeatsFirst, keepsRecord, turnsAway, savedWithoutRamp, savedWithoutNinth, reportWithoutBits, refusesNoWait, takesUnended}
 
 abbrev pub ours : Program
 ours = ruledBy ourEquipment
@@ -145,6 +145,12 @@ pub record ShamImagesCaught : Type 0 where
   pub ramp : ¬ TwoHistoriesBy savedWithoutRamp (historyReport ourEquipment) ours (exampleSheet 0)
   pub ninth : ¬ TwoHistoriesBy savedWithoutNinth (historyReport ourEquipment) ours (exampleSheet 2)
   pub bits : ¬ TwoHistoriesBy savedInto reportWithoutBits ours (exampleSheet 0)
+
+-- A reading that refuses a wait of 0 turns away document 01's example sheet, and one that takes a sheet whose last line is unended
+-- accepts more than sheets.
+pub record ShamReadingsCaught : Type 0 where
+  pub turnedAway : ¬ ReadsSheetsBack refusesNoWait
+  pub unended : ¬ AcceptsSheetsOnly takesUnended
 
 -- ---- wider than asked: any sensing table and any voltage regions with the facts of `Sound`, which ours have
 
