@@ -40,7 +40,7 @@ defaultSheetWritten = default-written
 pub underAcceptedTexts : UnderAcceptedTexts
 underAcceptedTexts s e =
     let a = sheet-written-out s e .accepted in
-    record { accepted = a; demand2 = ourTripAndReturn (readSheet s .settings) a; demand3 = ourTwoHistories (readSheet s .settings) a }
+    (ourTripAndReturn (readSheet s .settings) a, ourTwoHistories (readSheet s .settings) a)
 
 pub sampleLinesReadBack : SampleLinesReadBack
 sampleLinesReadBack = sample-reads-back

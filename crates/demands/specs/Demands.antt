@@ -2,9 +2,10 @@
 --
 -- `ours` is what the code's contracts promise, and a demand holds of the code through them. `fresh` is the result of `service::fresh`,
 -- `stepOf ourEquipment` that of `service::step::step` (and of `host::step` on a lent record), `saveCheck` and `savedInto` those of
--- `image::save` (and of `host::save`), `settingsCheck` that of `settings::check`, `sensed` that of `sensing::sense`. Each of those contracts is
--- proved in its crate for every record, settings, slice, code and buffer there can be. `ourEquipment` is document 01's sensing rule and
--- the Category III voltage regions. The words of the statements are defined in the crates `claims`, `rules` and `formats`.
+-- `image::save` (and of `host::save`), `settingsCheck` that of `settings::check`, `readSheet` that of `sheet::read`, `sensed` that of
+-- `sensing::sense`. Each of those contracts is proved in its crate for every record, settings, slice, code, buffer and text there can be.
+-- `ourEquipment` is document 01's sensing rule and the Category III voltage regions. The words of the statements are defined in the
+-- crates `claims`, `rules` and `formats`.
 -- Assumes nothing.
 use mathlib.Core.Path.{_≡_}
 use mathlib.Core.Bool.{true}
@@ -13,7 +14,6 @@ use mathlib.Core.Option.{some}
 use Prim.Native.Nat.{ℕ, _*_, _≤_}
 use lib.IntN.{ℤ}
 use Rattle.rules.specs.Sensing.{lastCode, voltage}
-use Rattle.rules.specs.Settings.{settingsAccepted}
 use Rattle.rules.specs.Samples.{Slice, Equipment, sampleAccepted}
 use Rattle.rules.specs.Counters.{Rule}
 use Rattle.rules.specs.Regions.{ourEquipment}
@@ -23,7 +23,6 @@ use Rattle.rules.specs.Forms.{sampleForm, numbersOf}
 use Rattle.rules.specs.Sheets.{SheetReading, readSheet}
 use Rattle.rules.specs.Defaults.{defaultSheet, defaultSettings}
 use Rattle.rules.specs.Transcripts.{Line, ended, linesIn}
-use Rattle.rules.specs.declared.Settings.{Settings}
 use Rattle.rules.specs.declared.SettingsCheck.{SettingsCheck}
 use Rattle.formats.specs.Sheets.{writtenSheet, ReadsSheetsBack, AcceptsSheetsOnly, AcceptAlike}
 use Rattle.formats.specs.Samples.{writable, ReadsBack, BeginsWithSample}
@@ -43,8 +42,8 @@ ours = ruledBy ourEquipment
 
 -- Demand 1, for the library: `RefusesRightly` in claims/specs/FirstCause.antt. Checking settings, sensing, the step and the saving refuse with n
 -- exactly when n is the first cause in document 01's order, accept input with none of the causes, and a refusal leaves the record and
--- every lent byte as they were. (Reading a sheet, cause 1, is the contract of `sheet::read`, an equation
--- with `readSheet`; which texts it accepts is said below, and its statement here comes with the program. That the operations stay inside their buffers and
+-- every lent byte as they were. (Reading a sheet, cause 1, is the contract of `sheet::read`, an equation with `readSheet`; which texts it
+-- accepts is said below, and the statement of its refusals comes with the program. That the operations stay inside their buffers and
 -- their arithmetic and end is part of each function's own proof.)
 abbrev pub OurRefusals : Type 0
 OurRefusals = RefusesRightly ourEquipment
@@ -70,7 +69,6 @@ OurTwoHistories = Demand3 ourEquipment ours
 -- Good sheets are read: `ReadsSheetsBack` in formats/specs/Sheets.antt. Settings that 2 and 3 pass, written out as document 01's thirteen
 -- lines, each ended by a line feed (`writtenSheet`), are accepted whatever bytes follow ("Bytes past the thirteenth line are not the
 -- sheet's"), with those settings, and the reading ends where the sheet does. A reading that turns away a good sheet does not meet this.
--- (`readSheet` is what `sheet::read` promises.)
 abbrev pub SheetsReadBack : Type 0
 SheetsReadBack = ReadsSheetsBack readSheet
 
@@ -91,13 +89,10 @@ DefaultSheetWritten = writtenSheet defaultSettings ≡ defaultSheet
 
 -- "Accepted sheet" in demands 2 and 3, tied to text: under the settings of every accepted text the board trips and returns as demand 2
 -- says, and two histories are told apart as demand 3 says.
-pub record DemandsUnder (st : Settings) : Type 0 where
-  pub accepted : settingsAccepted st ≡ true
-  pub demand2 : TripAndReturn ourEquipment ours st
-  pub demand3 : TwoHistoriesBy savedInto (historyReport ourEquipment) ours st
-
 abbrev pub UnderAcceptedTexts : Type 0
-UnderAcceptedTexts = (s : List ℕ) → readSheet s .check ≡ SettingsCheck.Accepted → DemandsUnder (readSheet s .settings)
+UnderAcceptedTexts =
+    (s : List ℕ) → readSheet s .check ≡ SettingsCheck.Accepted
+    → TripAndReturn ourEquipment ours (readSheet s .settings) × TwoHistoriesBy savedInto (historyReport ourEquipment) ours (readSheet s .settings)
 
 -- The same of sample lines, `(at (CODE CODE CODE) FREQ PERMIT AVAILABLE LIMIT)`: `ReadsBack` and `BeginsWithSample` in
 -- formats/specs/Samples.antt. A sample of seven numbers of at most six digits, written out with its line feed, is the first line of the
