@@ -2,15 +2,21 @@
 -- Assumes nothing.
 use native.Mathlib.Omega.{arith}
 use Rattle.rules.specs.Regions.{ourEquipment}
+use Rattle.rules.specs.Sheets.{readSheet}
 use Rattle.roots.proofs.Voltages.{voltage-root}
 use Rattle.laws.proofs.FirstCause.{refuses-rightly}
 use Rattle.laws.proofs.SheetCauses.{sheets-refused-rightly}
 use Rattle.laws.proofs.Demand2.{demand2, counter-rule}
 use Rattle.laws.proofs.Demand3.{demand3}
-use Rattle.demands.specs.Demands.{OurRefusals, OurSheetRefusals, OurTripAndReturn, OurTwoHistories, EveryCounter, SensingRule, StarredEdges, ShamsCaught, ShamImagesCaught, AnyTripAndReturn, AnyTwoHistories, OurEquipmentSound}
+use Rattle.formats.proofs.Sheets.{sheet-read-back, sheet-written-out, one-reading, default-written}
+use Rattle.formats.proofs.Samples.{sample-reads-back, sample-written-out}
+use Rattle.program.proofs.Sessions.{transcript-law}
+use Rattle.demands.specs.Demands.{OurRefusals, OurSheetRefusals, OurTranscript, OurTripAndReturn, OurTwoHistories, SheetsReadBack, SheetsWrittenOut, OneSheetReading, DefaultSheetWritten, UnderAcceptedTexts, SampleLinesReadBack, SampleLinesWrittenOut, AcceptedSamplesWritable, EveryCounter, SensingRule, StarredEdges, ShamsCaught, ShamImagesCaught, ShamReadingsCaught, AnyTripAndReturn, AnyTwoHistories, OurEquipmentSound}
 use Rattle.demands.proofs.Edges.{edges-hold}
+use Rattle.demands.proofs.Writable.{accepted-writable}
 use Rattle.demands.proofs.Sound.{our-equipment-sound}
 use Rattle.demands.proofs.Shams.{early, invented, tripped, repeated, kept, refusing, no-ramp, no-ninth, no-bits}
+use Rattle.demands.proofs.ShamReadings.{turned-away, let-in}
 
 pub ourRefusals : OurRefusals
 ourRefusals = refuses-rightly ourEquipment
@@ -18,11 +24,40 @@ ourRefusals = refuses-rightly ourEquipment
 pub ourSheetRefusals : OurSheetRefusals
 ourSheetRefusals = sheets-refused-rightly
 
+pub ourTranscript : OurTranscript
+ourTranscript = transcript-law ourEquipment
+
 pub ourTripAndReturn : OurTripAndReturn
 ourTripAndReturn = demand2 ourEquipment our-equipment-sound
 
 pub ourTwoHistories : OurTwoHistories
 ourTwoHistories = demand3 ourEquipment our-equipment-sound
+
+pub sheetsReadBack : SheetsReadBack
+sheetsReadBack = sheet-read-back
+
+pub sheetsWrittenOut : SheetsWrittenOut
+sheetsWrittenOut = sheet-written-out
+
+pub oneSheetReading : OneSheetReading
+oneSheetReading = one-reading
+
+pub defaultSheetWritten : DefaultSheetWritten
+defaultSheetWritten = default-written
+
+pub underAcceptedTexts : UnderAcceptedTexts
+underAcceptedTexts s e =
+    let a = sheet-written-out s e .accepted in
+    (ourTripAndReturn (readSheet s .settings) a, ourTwoHistories (readSheet s .settings) a)
+
+pub sampleLinesReadBack : SampleLinesReadBack
+sampleLinesReadBack = sample-reads-back
+
+pub sampleLinesWrittenOut : SampleLinesWrittenOut
+sampleLinesWrittenOut = sample-written-out
+
+pub acceptedSamplesWritable : AcceptedSamplesWritable
+acceptedSamplesWritable = accepted-writable
 
 pub everyCounter : EveryCounter
 everyCounter = counter-rule
@@ -38,6 +73,9 @@ shamsCaught = record { early = early; invented = invented; tripped = tripped; re
 
 pub shamImagesCaught : ShamImagesCaught
 shamImagesCaught = record { ramp = no-ramp; ninth = no-ninth; bits = no-bits }
+
+pub shamReadingsCaught : ShamReadingsCaught
+shamReadingsCaught = record { turnedAway = turned-away; unended = let-in }
 
 pub anyTripAndReturn : AnyTripAndReturn
 anyTripAndReturn e sound = demand2 e sound

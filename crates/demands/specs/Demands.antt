@@ -3,18 +3,32 @@
 -- `ours` is what the code's contracts promise, and a demand holds of the code through them. `fresh` is the result of `service::fresh`,
 -- `stepOf ourEquipment` that of `service::step::step` (and of `host::step` on a lent record), `saveCheck` and `savedInto` those of
 -- `image::save` (and of `host::save`), `settingsCheck` that of `settings::check`, `sensed` that of `sensing::sense`, `readSheet` and `handedBack`
--- those of `reader::read_sheet` (and of `sheet::read` and `sheet::part`). Each of those contracts is proved in its crate for every record,
--- settings, slice, code, buffer and text there can be. `ourEquipment` is document 01's sensing rule and the Category III voltage
--- regions. The words of the statements are defined in the crates `claims` and `rules`.
+-- those of `reader::read_sheet` (and of `sheet::read` and `sheet::part`), `respondOf ourEquipment` that of `respond::respond`. Each of those
+-- contracts is proved in its crate for every record, settings, slice, code, buffer, state and text there can be. `ourEquipment` is
+-- document 01's sensing rule and the Category III voltage regions. The words of the statements are defined in the crates `claims`,
+-- `rules`, `formats` and `program`.
 -- Assumes nothing.
+use mathlib.Core.Path.{_≡_}
+use mathlib.Core.Bool.{true}
+use mathlib.Core.List.{List, _∷_}
+use mathlib.Core.Option.{some}
 use Prim.Native.Nat.{ℕ, _*_, _≤_}
+use lib.IntN.{ℤ}
 use Rattle.rules.specs.Sensing.{lastCode, voltage}
-use Rattle.rules.specs.Samples.{Equipment}
+use Rattle.rules.specs.Samples.{Slice, Equipment, sampleAccepted}
 use Rattle.rules.specs.Counters.{Rule}
 use Rattle.rules.specs.Regions.{ourEquipment}
 use Rattle.rules.specs.History.{historyReport}
 use Rattle.rules.specs.Images.{savedInto}
+use Rattle.rules.specs.Forms.{sampleForm, numbersOf}
+use Rattle.rules.specs.Sheets.{SheetReading, readSheet}
+use Rattle.rules.specs.Defaults.{defaultSheet, defaultSettings}
+use Rattle.rules.specs.Transcripts.{Line, ended, linesIn}
+use Rattle.rules.specs.declared.SettingsCheck.{SettingsCheck}
+use Rattle.formats.specs.Sheets.{writtenSheet, ReadsSheetsBack, AcceptsSheetsOnly, AcceptAlike}
+use Rattle.formats.specs.Samples.{writable, ReadsBack, BeginsWithSample}
 use Rattle.roots.specs.Root.{IsRoot}
+use Rattle.program.specs.Sessions.{TranscriptLaw}
 use Rattle.claims.specs.Calls.{Program, ruledBy}
 use Rattle.claims.specs.Sound.{Sound}
 use Rattle.claims.specs.FirstCause.{RefusesRightly}
@@ -22,7 +36,7 @@ use Rattle.claims.specs.SheetCauses.{SheetsRefusedRightly}
 use Rattle.claims.specs.TripAndReturn.{TripAndReturn, CounterRule, Demand2}
 use Rattle.claims.specs.TwoHistories.{TwoHistoriesBy, Demand3}
 use Rattle.demands.specs.Edges.{EdgesHold}
-use Rattle.demands.specs.Shams.{exampleSheet, tripsEarly, inventsCounters, alwaysTripped, repeatsFirst, keepsRecord, turnsAway, savedWithoutRamp, savedWithoutNinth, reportWithoutBits}
+use Rattle.demands.specs.Shams.{exampleSheet, tripsEarly, inventsCounters, alwaysTripped, repeatsFirst, keepsRecord, turnsAway, savedWithoutRamp, savedWithoutNinth, reportWithoutBits, refusesNoWait, takesUnended}
 
 abbrev pub ours : Program
 ours = ruledBy ourEquipment
@@ -42,6 +56,14 @@ OurRefusals = RefusesRightly ourEquipment
 abbrev pub OurSheetRefusals : Type 0
 OurSheetRefusals = SheetsRefusedRightly
 
+-- Demand 1, for the program: `TranscriptLaw` in program/specs/Sessions.antt. However an input is cut into blocks, and whatever buffers are lent,
+-- what `respond` writes, put together, is the transcript of the input's first 10^12 bytes (rules/specs/Transcripts.antt): a sheet's first
+-- refusal with its line, ending all; or an answer for each line after the sheet, refusals with their line numbers, an unended last
+-- line and lines of any length among them. It gets to the end: a whole line at hand, with room for one, is taken; and once the input has
+-- ended, as many calls as there are bytes left, and one, finish.
+abbrev pub OurTranscript : Type 0
+OurTranscript = TranscriptLaw ourEquipment
+
 -- Demand 2: `TripAndReturn` in claims/specs/TripAndReturn.antt. Under every accepted sheet, for every list of step calls, refused ones
 -- included, on one record from a fresh board: the last report is the one that the accepted samples alone give, in their order, and so
 -- is the answer to every accepted call; the record is the one that they give; in service, the board trips at a step exactly when
@@ -57,6 +79,51 @@ OurTripAndReturn = Demand2 ourEquipment ours
 -- of 0 to 100,000 accepted samples, the reports at its end, as the accepted samples alone give them, are equal in every item.
 abbrev pub OurTwoHistories : Type 0
 OurTwoHistories = Demand3 ourEquipment ours
+
+-- ---- what is accepted, without a parser
+
+-- Good sheets are read: `ReadsSheetsBack` in formats/specs/Sheets.antt. Settings that 2 and 3 pass, written out as document 01's thirteen
+-- lines, each ended by a line feed (`writtenSheet`), are accepted whatever bytes follow ("Bytes past the thirteenth line are not the
+-- sheet's"), with those settings, and the reading ends where the sheet does. A reading that turns away a good sheet does not meet this.
+abbrev pub SheetsReadBack : Type 0
+SheetsReadBack = ReadsSheetsBack readSheet
+
+-- Nothing else is: `AcceptsSheetsOnly`. Every accepted text begins with the writing-out of the settings that are read from it, and 2 and 3
+-- pass them.
+abbrev pub SheetsWrittenOut : Type 0
+SheetsWrittenOut = AcceptsSheetsOnly readSheet
+
+-- So there is no choice in what is accepted: every reading with these two properties accepts the same texts as ours, with the same
+-- settings and place.
+abbrev pub OneSheetReading : Type 0
+OneSheetReading =
+    (read : List ℕ → SheetReading) → ReadsSheetsBack read → AcceptsSheetsOnly read → (s : List ℕ) → AcceptAlike (read s) (readSheet s)
+
+-- Document 01's default sheet, byte for byte, is its settings written out.
+abbrev pub DefaultSheetWritten : Type 0
+DefaultSheetWritten = writtenSheet defaultSettings ≡ defaultSheet
+
+-- "Accepted sheet" in demands 2 and 3, tied to text: under the settings of every accepted text the board trips and returns as demand 2
+-- says, and two histories are told apart as demand 3 says.
+abbrev pub UnderAcceptedTexts : Type 0
+UnderAcceptedTexts =
+    (s : List ℕ) → readSheet s .check ≡ SettingsCheck.Accepted
+    → TripAndReturn ourEquipment ours (readSheet s .settings) × TwoHistoriesBy savedInto (historyReport ourEquipment) ours (readSheet s .settings)
+
+-- The same of sample lines, `(at (CODE CODE CODE) FREQ PERMIT AVAILABLE LIMIT)`: `ReadsBack` and `BeginsWithSample` in
+-- formats/specs/Samples.antt. A sample of seven numbers of at most six digits, written out with its line feed, is the first line of the
+-- text that it begins, whatever follows, and that line is answered as the sample is. A text whose first line is ended and of the form
+-- begins with such a writing-out of its numbers. And every sample that none of 8, 4, 5, 6, 7 refuses can be written so.
+abbrev pub SampleLinesReadBack : Type 0
+SampleLinesReadBack = (x : Slice) (after : List ℕ) → writable x ≡ true → ReadsBack x after
+
+abbrev pub SampleLinesWrittenOut : Type 0
+SampleLinesWrittenOut =
+    (s line : List ℕ) (lines : List Line) (ns : List ℤ) → linesIn s ≡ ended line ∷ lines → numbersOf sampleForm line ≡ some ns
+    → BeginsWithSample s ns lines
+
+abbrev pub AcceptedSamplesWritable : Type 0
+AcceptedSamplesWritable = (x : Slice) → sampleAccepted x ≡ true → writable x ≡ true
 
 -- ---- beside them
 
@@ -89,6 +156,12 @@ pub record ShamImagesCaught : Type 0 where
   pub ramp : ¬ TwoHistoriesBy savedWithoutRamp (historyReport ourEquipment) ours (exampleSheet 0)
   pub ninth : ¬ TwoHistoriesBy savedWithoutNinth (historyReport ourEquipment) ours (exampleSheet 2)
   pub bits : ¬ TwoHistoriesBy savedInto reportWithoutBits ours (exampleSheet 0)
+
+-- A reading that refuses a wait of 0 turns away document 01's example sheet, and one that takes a sheet whose last line is unended
+-- accepts more than sheets.
+pub record ShamReadingsCaught : Type 0 where
+  pub turnedAway : ¬ ReadsSheetsBack refusesNoWait
+  pub unended : ¬ AcceptsSheetsOnly takesUnended
 
 -- ---- wider than asked: any sensing table and any voltage regions with the facts of `Sound`, which ours have
 

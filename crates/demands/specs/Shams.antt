@@ -1,13 +1,15 @@
--- Document 01, "What a contract says of the board": the sham boards that demand 2 must stop; and sham images and reports that
--- demand 3 must stop.
+-- Document 01, "What a contract says of the board": the sham boards that demand 2 must stop; sham images and reports that demand 3 must
+-- stop; and sham readings of sheets.
 -- Assumes nothing.
 use mathlib.Core.Bool.{Bool, false, cond, _&&_}
-use mathlib.Core.List.{List, [], _∷_, map}
+use mathlib.Core.List.{List, [], _∷_, _++_, map}
 use Prim.Native.Nat.{ℕ, _*_, _/_}
 use lib.Dec.{eqb, leb}
 use lib.IntN.{ℤ, pos, negℤ}
 use lib.ListN.{replicate, set, take}
 use Rattle.rules.specs.Tests.{all, any}
+use Rattle.rules.specs.Text.{feed}
+use Rattle.rules.specs.Sheets.{SheetReading, refusedAt, readSheet}
 use Rattle.rules.specs.Samples.{Slice}
 use Rattle.rules.specs.Regions.{ourEquipment}
 use Rattle.rules.specs.Reports.{Items, reportOf}
@@ -19,7 +21,7 @@ use Rattle.rules.specs.declared.Limit.{Limit}
 use Rattle.rules.specs.declared.Point.{Point}
 use Rattle.rules.specs.declared.Settings.{Settings}
 use Rattle.rules.specs.declared.Board.{Board}
-use Rattle.rules.specs.declared.Refusal.the-variants.{Code}
+use Rattle.rules.specs.declared.Refusal.the-variants.{Range, Code}
 use Rattle.rules.specs.declared.Answer.{Answer}
 use Rattle.rules.specs.declared.Stepped.{Stepped}
 use Rattle.claims.specs.Calls.{Program}
@@ -135,3 +137,13 @@ unfoldable pub reportWithoutBits : Settings → History → Items
 reportWithoutBits st h =
     let r = historyReport ourEquipment st h in
     record { status = r .status; bits = replicate 9 false; share = r .share; watts = r .watts; vars = r .vars }
+
+-- ---- sham readings of sheets
+
+-- "turns away good sheets": it refuses a wait of 0, which its row allows
+unfoldable pub refusesNoWait : List ℕ → SheetReading
+refusesNoWait s = cond (eqb (readSheet s .settings .wait) 0) (refusedAt Range 11 0) (readSheet s)
+
+-- it takes a sheet whose last line is unended
+unfoldable pub takesUnended : List ℕ → SheetReading
+takesUnended s = readSheet (s ++ (feed ∷ []))

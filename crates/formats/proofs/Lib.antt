@@ -1,4 +1,10 @@
+pub mod Places
 pub mod Digits
 pub mod Numbers
 pub mod Forms
+pub mod Feeds
 pub mod Samples
+pub mod Rows
+pub mod Lines
+pub mod Settings
+pub mod Sheets

@@ -1,9 +1,9 @@
--- What a sample line is, without a parser: every sample of seven numbers of at most six digits is read from its writing-out, and
--- every line of the form is the writing-out of such a sample.
+-- What a sample line is, without a parser: every sample of seven numbers of at most six digits is read from its writing-out, whatever
+-- follows it, and every line of the form is the writing-out of such a sample.
 -- Assumes nothing.
-use mathlib.Core.Path.{_≡_, refl, ap, _∙_}
+use mathlib.Core.Path.{_≡_, refl, sym, ap, _∙_}
 use mathlib.Core.Bool.{Bool, true, false, cond, not, _&&_, false≢true}
-use mathlib.Core.List.{List, [], _∷_, map}
+use mathlib.Core.List.{List, [], _∷_, _++_, map, append-nil, append-assoc}
 use mathlib.Core.Option.{some}
 use Prim.Native.Nat.{ℕ, suc}
 use native.Mathlib.Omega.{arith}
@@ -12,11 +12,15 @@ use lib.Dec.{eqb}
 use lib.IntN.{ℤ, pos, negsuc, natAbs}
 use lib.ListN.{length, length-map}
 use Rattle.rules.specs.Tests.{all, within}
+use Rattle.rules.specs.Text.{feed, hasFeed}
+use Rattle.rules.specs.Samples.{Slice}
+use Rattle.rules.specs.Transcripts.{Line, ended, linesAfter, linesIn, lineStep}
 use Rattle.rules.specs.Forms.{signedMark, sampleForm, numbersOf}
 use Rattle.formats.specs.Marks.{isMark, marks, fits, fitsThen, suits}
-use Rattle.formats.specs.Samples.{sixDigits, writable, writtenSample}
+use Rattle.formats.specs.Samples.{sixDigits, writable, writtenSample, ReadsBack, BeginsWithSample}
 use Rattle.formats.proofs.Digits.{both}
 use Rattle.formats.proofs.Forms.{separated, line-written, written-read, suits-length}
+use Rattle.formats.proofs.Feeds.{neither, written-plain}
 
 -- ---- a form without `~`, and numbers that are not negative
 
@@ -93,4 +97,79 @@ sample-written line ns e =
       can = rw (eq-eqb (length (map natAbs ns)) 7 seven) (u .small);
       text = rw (← u .same) (w .text);
       numbers = u .same;
+    }
+
+-- ---- the first line of a text
+
+lines-plain : (before xs rest : List ℕ) → hasFeed xs ≡ false → linesAfter before (xs ++ rest) ≡ linesAfter (before ++ xs) rest
+unfolding linesAfter hasFeed
+lines-plain before [] rest p = rw append-nil
+lines-plain before (x ∷ xs) rest p =
+    let tests = neither (eqb x feed) (hasFeed xs) p in
+    rw (tests .0) (lines-plain (before ++ (x ∷ [])) xs rest (tests .1) ∙ rw append-assoc)
+
+pub plain-first : (line after : List ℕ) → hasFeed line ≡ false → linesIn (line ++ (feed ∷ after)) ≡ ended line ∷ linesIn after
+unfolding linesIn linesAfter
+plain-first line after p = lines-plain [] line (feed ∷ after) p
+
+-- a text of which `before` is read and whose first line is ended
+record IsFirst (before s line : List ℕ) (lines : List Line) : Type 0 where
+  here : List ℕ
+  after : List ℕ
+  whole : line ≡ before ++ here
+  text : s ≡ here ++ (feed ∷ after)
+  others : lines ≡ linesIn after
+
+is-first : (before s line : List ℕ) (lines : List Line) → linesAfter before s ≡ ended line ∷ lines → IsFirst before s line lines
+unfolding linesAfter linesIn
+is-first [] [] line lines e = let z : _≡_ {A = ℕ} 0 1 = cc in absurd (omega arith)
+is-first (b ∷ before) [] line lines e = let z : _≡_ {A = ℕ} 0 1 = cc in absurd (omega arith)
+is-first before (b ∷ s) line lines e = by-test (eqb b feed) refl e (λ k. is-first k s line lines)
+  where
+    by-test : (t : Bool) → eqb b feed ≡ t → cond t (ended before ∷ linesAfter [] s) (linesAfter (before ++ (b ∷ [])) s) ≡ ended line ∷ lines
+        → ((k : List ℕ) → linesAfter k s ≡ ended line ∷ lines → IsFirst k s line lines) → IsFirst before (b ∷ s) line lines
+    by-test true q e rest = record { here = []; after = s; whole = cc (append-nil before); text = rw (eqb-true b feed q); others = cc }
+    by-test false q e rest =
+        let r = rest (before ++ (b ∷ [])) e in
+        record {
+          here = b ∷ r .here;
+          after = r .after;
+          whole = r .whole ∙ append-assoc before (b ∷ []) (r .here);
+          text = ap (λ (k : List ℕ). b ∷ k) (r .text);
+          others = r .others;
+        }
+
+-- ---- sample lines of a text
+
+numbers-same : (x : List ℕ) → map natAbs (map pos x) ≡ x
+numbers-same [] = refl
+numbers-same (n ∷ x) = ap (λ (k : List ℕ). n ∷ k) (numbers-same x)
+
+sample-plain : (x : List ℕ) → writable x ≡ true → hasFeed (writtenSample x) ≡ false
+unfolding writtenSample sampleForm marks hasFeed
+sample-plain x w =
+    let tests = both (eqb (length x) 7) (all (map sixDigits x)) w in
+    written-plain sampleForm (map pos x) refl (all-suit sampleForm x (eqb-true (length x) 7 (tests .0)) (tests .1))
+
+pub sample-reads-back : (x : Slice) (after : List ℕ) → writable x ≡ true → ReadsBack x after
+unfolding lineStep
+sample-reads-back x after w =
+    record {
+      line = plain-first (writtenSample x) after (sample-plain x w);
+      step = λ e st b. rw (sample-read x w, numbers-same x);
+    }
+
+pub sample-written-out : (s line : List ℕ) (lines : List Line) (ns : List ℤ) → linesIn s ≡ ended line ∷ lines → numbersOf sampleForm line ≡ some ns
+    → BeginsWithSample s ns lines
+unfolding linesIn
+sample-written-out s line lines ns p e =
+    let w = sample-written line ns e in
+    let f = is-first [] s line lines p in
+    record {
+      sample = w .sample;
+      can = w .can;
+      numbers = w .numbers;
+      after = f .after;
+      text = f .text ∙ ap (λ (k : List ℕ). k ++ (feed ∷ f .after)) (sym (f .whole) ∙ w .text);
+      others = f .others;
     }

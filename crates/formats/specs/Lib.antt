@@ -1,2 +1,3 @@
 pub mod Marks
 pub mod Samples
+pub mod Sheets

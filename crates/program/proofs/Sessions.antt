@@ -14,6 +14,7 @@ use Rattle.program.specs.States.{Fit, start, isDone}
 use Rattle.program.specs.Saying.{resume}
 use Rattle.program.specs.Responses.{budget, respondOf}
 use Rattle.program.specs.Sessions.{Session, Call, opened, called, during, ending, joined, Roomy, TranscriptLaw}
+use Rattle.program.proofs.Fitting.{sensible-fit}
 use Rattle.program.proofs.Resuming.{done-resume}
 use Rattle.program.proofs.Transcripts.{resume-start}
 use Rattle.program.proofs.Responding.{s, ends, fit-after, says, taken-low, taken-high, done-stays, line-taken, tail-closed}
@@ -141,6 +142,7 @@ module _ (e : Equipment) where
       record {
         done = λ cs sizes p. sym ((ended-ending (after cs) (joined cs) sizes (good-ended (after cs) (joined cs) (good cs))) .says ∙ nothing-more (ending e (after cs) sizes) [] p);
         ends = λ cs sizes r h. all-done (after cs) sizes (good cs .fit) r (omega (arith, good cs .short));
+        progress = λ q block last size fit going roomy fed. line-taken e q block last size (sensible-fit q fit) going roomy fed;
         begins = λ cs more. good cs .says more ∙ ap (λ (l : List ℕ). after cs .text ++ l) (sym (ap (drop (length (after cs .text))) (good cs .says more) ∙ drop-append-seam (after cs .text) (still (after cs) more)));
         early = λ cs more p. good cs .says more ∙ nothing-more (after cs) more p;
       }

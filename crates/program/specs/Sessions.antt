@@ -8,8 +8,7 @@ use lib.ListN.{length, take, drop}
 use Rattle.rules.specs.Samples.{Equipment}
 use Rattle.rules.specs.Text.{firstLine, hasFeed}
 use Rattle.rules.specs.Transcripts.{transcript}
-use Rattle.program.specs.States.{start, isDone}
-use Rattle.program.specs.Saying.{Said, resume}
+use Rattle.program.specs.States.{start, isDone, sensible}
 use Rattle.program.specs.Responses.{budget, lineRoom, respondOf}
 use Rattle.program.specs.declared.State.{State}
 
@@ -64,6 +63,10 @@ pub record TranscriptLaw (e : Equipment) : Type 0 where
   -- all is done after as many calls with room for a line as there are bytes left, and one
   pub ends : (cs : List Call) (sizes : List ℕ) → Roomy sizes → length (joined cs) < length sizes
       → isDone (ending e (during e opened cs) sizes .state) ≡ true
+  -- a whole line at hand is taken, where there is room for one
+  pub progress : (q : State) (block : List ℕ) (last : Bool) (size : ℕ) → sensible q ≡ true → isDone q ≡ false → lineRoom ≤ size
+      → hasFeed (take (budget q) block) ≡ true
+      → q .taken + (length (firstLine (take (budget q) block)) + 1) ≤ respondOf e q block last size .state .taken
   -- before the input's end, what was written begins its transcript, whatever comes
   pub begins : (cs : List Call) (more : List ℕ)
       → transcript e (joined cs ++ more) ≡ during e opened cs .text ++ drop (length (during e opened cs .text)) (transcript e (joined cs ++ more))

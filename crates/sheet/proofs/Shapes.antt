@@ -1,34 +1,16 @@
 -- The numbers of a line by the marks of its form: two of no sign, or those of a curve.
 -- Assumes nothing.
 use mathlib.Core.Path.{_≡_, refl, sym, ap, _∙_}
-use mathlib.Core.Bool.{Bool, true, false, cond, _&&_, _||_, false≢true}
+use mathlib.Core.Bool.{Bool, true, false, _&&_, false≢true}
 use mathlib.Core.List.{List, [], _∷_, _++_, map}
-use Prim.Native.Nat.{ℕ, suc, _≤_, _<_}
-use native.Mathlib.Omega.{arith}
-use lib.Dec.{leb, eqb}
+use Prim.Native.Nat.{ℕ, _<_}
+use lib.Dec.{leb}
 use lib.IntN.{ℤ, pos, negsuc}
-use lib.ListN.{length, getD, replicate, List·getD-append, List·getD-map, getD-replicate}
-use Rattle.rules.specs.Text.{bytes}
+use lib.ListN.{getD, replicate, List·getD-append, List·getD-map, getD-replicate}
 use Rattle.rules.specs.Forms.{sheetForms, sampleForm}
-use Rattle.formats.specs.Marks.{isMark, fits, fitsThen, suits}
+use Rattle.formats.specs.Marks.{fits, suits}
+use Rattle.formats.proofs.Rows.{marksOf, suits-marks}
 use Rattle.text.specs.Forms.{forms, formAt}
-
--- the marks of a form, in order
-abbrev pub marksOf : List ℕ → List ℕ
-marksOf [] = []
-marksOf (m ∷ form) = cond (isMark m) (m ∷ marksOf form) (marksOf form)
-
--- numbers suit a form by its marks alone
-pub suits-marks : (form : List ℕ) (ns : List ℤ) → suits form ns ≡ suits (marksOf form) ns
-unfolding suits
-suits-marks [] ns = refl
-suits-marks (m ∷ form) ns = by (isMark m) refl ns (suits-marks form)
-  where
-    by : (b : Bool) → isMark m ≡ b → (ks : List ℤ) → ((ls : List ℤ) → suits form ls ≡ suits (marksOf form) ls)
-        → cond b (fitsThen m ks (suits form)) (suits form ks) ≡ suits (cond b (m ∷ marksOf form) (marksOf form)) ks
-    by true e [] f = rw e
-    by true e (k ∷ ks) f = rw (e, f ks)
-    by false e ks f = f ks
 
 abbrev varMarks : List ℕ
 varMarks = 35 ∷ 126 ∷ 35 ∷ 126 ∷ 35 ∷ 126 ∷ 35 ∷ 126 ∷ []

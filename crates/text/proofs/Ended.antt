@@ -1,26 +1,22 @@
 -- A form at the beginning of a text, against the text's first line: the same numbers, and where the line ends.
 -- Assumes nothing.
 use mathlib.Core.Path.{_≡_, refl, sym, ap, _∙_, subst}
-use mathlib.Core.Bool.{Bool, true, false, cond, not, _||_, false≢true, true≢false}
+use mathlib.Core.Bool.{Bool, true, false, cond, false≢true, true≢false}
 use mathlib.Core.List.{List, [], _∷_, _++_, append-assoc}
 use mathlib.Core.Option.{Option, none, some, Option·some-injective, Option·none-ne-some}
-use Prim.Native.Nat.{ℕ, zero, suc, _+_, _-_}
+use Prim.Native.Nat.{ℕ, zero, suc, _+_}
 use native.Mathlib.Omega.{arith}
-use borrow.Author.Tests.{eqb-true, ne-eqb, leb-true}
-use lib.Dec.{eqb, leb}
+use borrow.Author.Tests.{eqb-true, ne-eqb}
+use lib.Dec.{eqb}
 use lib.IntN.{ℤ, pos, negsuc}
 use lib.ListN.{length, length-append}
 use Rattle.rules.specs.Tests.{within}
-use Rattle.rules.specs.Text.{feed, minus, isDigit, leadingDigits, afterDigits, valueAfter, wellFormed, decimal, signedDecimal, Taken, takeNumber, negated, takeSigned, firstLine, hasFeed}
-use Rattle.rules.specs.Forms.{numberMark, signedMark}
-use Rattle.formats.specs.Marks.{isMark, fits, takeMarked}
-use Rattle.formats.proofs.Digits.{AllDigits, end, more, both}
-use Rattle.formats.proofs.Numbers.{decimal-digits, marked-written}
+use Rattle.rules.specs.Text.{feed, minus, isDigit, leadingDigits, afterDigits, valueAfter, wellFormed, signedDecimal, Taken, takeNumber, negated, takeSigned, firstLine, hasFeed}
+use Rattle.rules.specs.Forms.{numberMark}
+use Rattle.formats.specs.Marks.{isMark, takeMarked}
+use Rattle.formats.proofs.Numbers.{marked-written}
+use Rattle.formats.proofs.Feeds.{neither, no-feeds, number-plain, plain-line, plain-feed}
 use Rattle.text.specs.Forms.{Formed, after, takenThen, byteThen, takeForm}
-
-neither : (a b : Bool) → (a || b) ≡ false → (a ≡ false) × (b ≡ false)
-neither true b e = absurd (true≢false e)
-neither false b e = (refl, e)
 
 -- ---- numbers of the first line
 
@@ -149,13 +145,6 @@ pub record Plain (l rest : List ℕ) : Type 0 where
   pub text : l ≡ before ++ rest
   pub plain : hasFeed before ≡ false
 
-no-feeds : (xs ys : List ℕ) → hasFeed xs ≡ false → hasFeed ys ≡ false → hasFeed (xs ++ ys) ≡ false
-unfolding hasFeed
-no-feeds [] ys p q = q
-no-feeds (x ∷ xs) ys p q =
-    let tests = neither (eqb x feed) (hasFeed xs) p in
-    rw (tests .0) (no-feeds xs ys (tests .1) q)
-
 plain-then : {l m rest : List ℕ} → Plain l m → Plain m rest → Plain l rest
 plain-then {l} {m} {rest} p q =
     record {
@@ -163,16 +152,6 @@ plain-then {l} {m} {rest} p q =
       text = p .text ∙ rw (append-assoc, ← q .text);
       plain = no-feeds (p .before) (q .before) (p .plain) (q .plain);
     }
-
-digits-plain : {ds : List ℕ} → AllDigits ds → hasFeed ds ≡ false
-unfolding hasFeed
-digits-plain end = refl
-digits-plain (more {b} d r) = rw (ne-eqb b feed (λ e. omega (arith, d .low))) (digits-plain r)
-
-number-plain : (mark : ℕ) (n : ℤ) → fits mark n ≡ true → hasFeed (signedDecimal n) ≡ false
-unfolding signedDecimal hasFeed
-number-plain mark (pos n) f = digits-plain (decimal-digits n (leb-true n 999999 f))
-number-plain mark (negsuc n) f = digits-plain (decimal-digits (suc n) (leb-true (suc n) 999999 (both (eqb mark signedMark) (leb (suc n) 999999) f .1)))
 
 marked-plain : (mark : ℕ) (l : List ℕ) (t : Taken) → isMark mark ≡ true → takeMarked mark l ≡ some t → Plain l (t .rest)
 marked-plain mark l t m e =
@@ -222,20 +201,6 @@ form-plain (mark ∷ form) l f p e = by-mark (isMark mark) refl e (λ k g. form-
     by-mark false m e rest = text-plain mark form f rest (tests .0) l e
 
 -- ---- where the first line ends
-
-plain-line : (xs rest : List ℕ) → hasFeed xs ≡ false → firstLine (xs ++ rest) ≡ xs ++ firstLine rest
-unfolding hasFeed firstLine
-plain-line [] rest p = refl
-plain-line (x ∷ xs) rest p =
-    let tests = neither (eqb x feed) (hasFeed xs) p in
-    rw (tests .0, plain-line xs rest (tests .1))
-
-plain-feed : (xs rest : List ℕ) → hasFeed xs ≡ false → hasFeed (xs ++ rest) ≡ hasFeed rest
-unfolding hasFeed
-plain-feed [] rest p = refl
-plain-feed (x ∷ xs) rest p =
-    let tests = neither (eqb x feed) (hasFeed xs) p in
-    rw (tests .0) (plain-feed xs rest (tests .1))
 
 pub rest-feed : {l rest : List ℕ} → Plain l rest → hasFeed l ≡ hasFeed rest
 rest-feed {l} {rest} p = rw (p .text) (plain-feed (p .before) rest (p .plain))
