@@ -66,14 +66,10 @@ impl Draws {
 // Sensing, to find the codes around a level
 // ---------------------------------------------------------------------------
 
-/// The largest whole number whose square is at most code × 100,000.
-pub fn volts(code: u32) -> u32 {
-    (u64::from(code) * 100_000).isqrt() as u32
-}
-
-/// The lowest code whose voltage is at least `level`, or 4095.
+/// The lowest code whose voltage, the largest whole number whose square is at most code × 100,000, is at least `level`; or 4095.
 pub fn code_from(level: u32) -> u32 {
-    (0..4096).find(|&code| volts(code) >= level).unwrap_or(4095)
+    let square = u64::from(level) * u64::from(level);
+    square.div_ceil(100_000).min(4095) as u32
 }
 
 /// The highest code whose voltage is below `level`, or 0.
