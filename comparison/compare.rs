@@ -46,25 +46,25 @@ impl Input {
 /// Where makers of inputs put them.
 pub type Sink<'a> = &'a mut dyn FnMut(Input);
 
-/// The kinds of inputs.
+/// The kinds of inputs, quick ones first.
 const MAKERS: [fn(Sink); 17] = [
-    runs::drawn,
-    runs::clearing,
-    runs::waits,
-    runs::ramps,
+    runs::sample_numbers,
     runs::bands,
     runs::curves,
-    runs::sample_numbers,
     damage::sheet_bytes,
     damage::sheet_numbers,
     damage::not_rising,
     damage::sheet_lines,
     damage::sample_bytes,
     damage::sample_lines,
-    damage::long_lines,
     damage::noise,
+    runs::waits,
+    runs::drawn,
     damage::pipe_cuts,
     damage::pipe_blocks,
+    damage::long_lines,
+    runs::ramps,
+    runs::clearing,
 ];
 
 const INPUTS_AT_LEAST: usize = 3000;
