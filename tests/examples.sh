@@ -3,6 +3,11 @@
 set -u
 cd "$(dirname "$0")/.." || exit 2
 board=${BOARD:-target/bin/board}
+if [ ! -x "$board" ]; then
+    echo "$board is missing: 'rt check board' makes it"
+    echo "0 passed, 1 failed"
+    exit 1
+fi
 passed=0
 failed=0
 for input in examples/*.in; do

@@ -40,12 +40,12 @@ fn other_byte(byte: u8, draws: &mut Draws) -> u8 {
     }
 }
 
-/// Each byte of a sheet changed, dropped and doubled; then drawn sheets damaged in a drawn place.
+/// Each byte of a sheet changed, dropped, doubled and put after another; then drawn sheets damaged in a drawn place.
 pub fn sheet_bytes(sink: Sink) {
     let mut draws = Draws::new(10_000_000);
     let text = quick().text().into_bytes();
     for place in 0..text.len() {
-        for (way, name) in ["changed", "dropped", "doubled"].into_iter().enumerate() {
+        for (way, name) in ["changed", "dropped", "doubled", "put after another"].into_iter().enumerate() {
             let mut damaged = text.clone();
             damage(&mut damaged, place, way, &mut draws);
             damaged.extend_from_slice(LISTING.as_bytes());
@@ -55,7 +55,7 @@ pub fn sheet_bytes(sink: Sink) {
     for seed in 0..400 {
         let mut text = Sheet::lively(&mut draws).text().into_bytes();
         for _ in 0..draws.pick(&[1, 1, 2, 3]) {
-            let (place, way) = (draws.below(text.len()), draws.below(3));
+            let (place, way) = (draws.below(text.len()), draws.below(4));
             damage(&mut text, place, way, &mut draws);
         }
         text.extend_from_slice(LISTING.as_bytes());
@@ -67,7 +67,8 @@ fn damage(text: &mut Vec<u8>, place: usize, way: usize, draws: &mut Draws) {
     match way {
         0 => text[place] = other_byte(text[place], draws),
         1 => drop(text.remove(place)),
-        _ => text.insert(place, text[place]),
+        2 => text.insert(place, text[place]),
+        _ => text.insert(place, other_byte(text[place], draws)),
     }
 }
 
@@ -174,7 +175,7 @@ pub fn sheet_lines(sink: Sink) {
     }
 }
 
-/// Each byte of a sample line changed to all others, dropped and doubled: an input for each place, good samples between.
+/// Each byte of a sample line changed to all others, put after all others, dropped and doubled: an input for each place.
 pub fn sample_bytes(sink: Sink) {
     let lines = ["(at (1000 1001 999) 60000 1 10000 9000)\n", "(at (0 4095 1440) 40000 0 0 1)\n", "(at (775 841 1210) 61200 1 10 10000)\n"];
     for (i, line) in lines.into_iter().enumerate() {
@@ -183,6 +184,9 @@ pub fn sample_bytes(sink: Sink) {
             for byte in 0..=255 {
                 let mut damaged = line.as_bytes().to_vec();
                 damaged[place] = byte;
+                text.extend_from_slice(&damaged);
+                let mut damaged = line.as_bytes().to_vec();
+                damaged.insert(place, byte);
                 text.extend_from_slice(&damaged);
             }
             let mut draws = Draws::new(0);
@@ -202,7 +206,7 @@ pub fn sample_bytes(sink: Sink) {
         for _ in 0..100 {
             let mut line = sample_line(&drawn_sample(&sheet, &mut draws)).into_bytes();
             for _ in 0..draws.below(3) {
-                let (place, way) = (draws.below(line.len()), draws.below(3));
+                let (place, way) = (draws.below(line.len()), draws.below(4));
                 damage(&mut line, place, way, &mut draws);
             }
             text.extend_from_slice(&line);
@@ -233,6 +237,7 @@ pub fn sample_lines(sink: Sink) {
         put(kind, format!("end {i} before the sheet"), end.to_string() + &sheet + LISTING, sink);
         put(kind, format!("end {i} alone"), end.to_string(), sink);
     }
+    put(kind, "samples with carriage returns".to_string(), sheet.clone() + &LISTING.replace('\n', "\r\n"), sink);
     put(kind, "the sheet again".to_string(), sheet.clone() + LISTING + &sheet + LISTING, sink);
 }
 
@@ -319,7 +324,7 @@ pub fn pipe_blocks(sink: Sink) {
             while text.len() < length {
                 let mut line = sample_line(&drawn_sample(&sheet, &mut draws)).into_bytes();
                 if draws.once_in(50) {
-                    let (place, way) = (draws.below(line.len()), draws.below(3));
+                    let (place, way) = (draws.below(line.len()), draws.below(4));
                     damage(&mut line, place, way, &mut draws);
                 }
                 text.extend_from_slice(&line);
