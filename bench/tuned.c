@@ -1,4 +1,4 @@
-/* The `board` job of document 01 written for speed, as a yardstick: gcc -O3 -march=native tuned.c
+/* The `board` job of document 01 written for speed, as a yardstick: gcc -O3 tuned.c
    One pass over the bytes, tables for voltages, rating, decimals and bits; nothing is proved of it. `bench/run` holds its output
    against the comparison program's. */
 
