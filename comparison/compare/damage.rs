@@ -270,6 +270,10 @@ pub fn long_lines(sink: Sink) {
         put(kind, format!("sheet line {} of a megabyte, unended", line + 1), text, sink);
     }
     many_lines(sink);
+    for watt in ["(watt (08", "(watt (12001", "(watt (11000"] {
+        let sheet = quick().text().replace("(watt (10600", watt);
+        put(kind, format!("{watt} and a megabyte of samples"), sheet + &LISTING.repeat(5000), sink);
+    }
 }
 
 /// Many short lines: line numbers of seven digits.
@@ -303,8 +307,10 @@ pub fn pipe_cuts(sink: Sink) {
         let feed = Feed::Cut(vec![place]);
         sink(Input::fed("pipes cut at a place", format!("cut at {place}"), text.clone().into_bytes(), feed));
     }
-    let refused = quick().text().replace("(watt (10600", "(watt (12001") + LISTING;
-    for (name, text) in [("listing", text.clone()), ("refused", refused), ("unended", text[..text.len() - 1].to_string())] {
+    let [refused1, refused2, refused3] =
+        ["(watt (08", "(watt (12001", "(watt (11000"].map(|watt| quick().text().replace("(watt (10600", watt) + LISTING);
+    let unended = text[..text.len() - 1].to_string();
+    for (name, text) in [("listing", text), ("refused 1", refused1), ("refused 2", refused2), ("refused 3", refused3), ("unended", unended)] {
         for size in [1, 2, 3, 5, 7, 41, 42, 43] {
             let feed = Feed::Blocks(size);
             sink(Input::fed("pipes cut at a place", format!("{name} in blocks of {size}"), text.clone().into_bytes(), feed));
