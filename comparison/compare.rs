@@ -69,6 +69,8 @@ const MAKERS: [fn(Sink); 17] = [
 
 const INPUTS_AT_LEAST: usize = 3000;
 const REACHED_AT_LEAST: usize = 100;
+/// After so many runs that a signal ended, the program's own or that of the watch over long runs, no more are begun.
+const SIGNALS_AT_MOST: usize = 3;
 const BITS: [&str; 9] = ["uv1", "uv2", "ov1", "ov2", "uf1", "uf2", "of1", "of2", "ready"];
 
 /// What the inputs reached, counted in what both programs wrote.
@@ -125,10 +127,14 @@ struct Comparison {
     folder: String,
     reached: Reached,
     differences: usize,
+    signals: usize,
 }
 
 impl Comparison {
     fn compare(&mut self, input: &Input) {
+        if self.signals == SIGNALS_AT_MOST {
+            return;
+        }
         let mut expected = Vec::new();
         board::run(input.bytes.as_slice(), &mut expected).expect("a write to memory");
         let file = format!("{}/input", self.folder);
@@ -139,6 +145,7 @@ impl Comparison {
             return;
         }
         self.differences += 1;
+        self.signals += usize::from(status.code().is_none());
         if self.differences == 1 {
             self.keep(input, &expected, &got, status);
         } else if self.differences < 10 {
@@ -163,6 +170,9 @@ impl Comparison {
 
     /// Prints what was reached and gives how many conditions hold and how many do not.
     fn conclude(&self) -> (usize, usize) {
+        if self.signals == SIGNALS_AT_MOST {
+            println!("stopped: signals ended {SIGNALS_AT_MOST} runs of the program");
+        }
         println!("inputs by kind:");
         for (kind, count) in &self.reached.kinds {
             println!("{count:>9}  {kind}");
@@ -194,7 +204,7 @@ fn main() -> ExitCode {
     feed::watch();
     let begin = Instant::now();
     let mut comparison =
-        Comparison { program: program.clone(), folder: folder.clone(), reached: Reached::default(), differences: 0 };
+        Comparison { program: program.clone(), folder: folder.clone(), reached: Reached::default(), differences: 0, signals: 0 };
     for make in MAKERS {
         make(&mut |input| {
             if kinds.is_empty() || kinds.iter().any(|kind| kind == input.kind) {
