@@ -185,6 +185,8 @@ pub fn sample_bytes(sink: Sink) {
                 let mut damaged = line.as_bytes().to_vec();
                 damaged[place] = byte;
                 text.extend_from_slice(&damaged);
+            }
+            for byte in 0..=255 {
                 let mut damaged = line.as_bytes().to_vec();
                 damaged.insert(place, byte);
                 text.extend_from_slice(&damaged);
