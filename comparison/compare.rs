@@ -1,0 +1,220 @@
+//! Holds a `board` program against the comparison program, byte for byte, on made inputs.
+//!
+//!     rustc -O --edition 2021 compare.rs
+//!     compare PROGRAM FOLDER [KIND]
+//!
+//! The comparison program, `board.rs`, is linked in; PROGRAM is started anew for every input. The input of the first difference
+//! is kept in FOLDER with what each wrote. Seeds are fixed: every run makes the same inputs. With KIND, only inputs of that kind.
+//! The last line is 'N passed, M failed': an input on which both agree is a pass, and so is each thing reached often enough.
+
+#[allow(dead_code)]
+#[path = "board.rs"]
+mod board;
+#[path = "compare/damage.rs"]
+mod damage;
+#[path = "compare/draw.rs"]
+mod draw;
+#[path = "compare/feed.rs"]
+mod feed;
+#[path = "compare/runs.rs"]
+mod runs;
+
+use feed::Feed;
+use std::env;
+use std::fs;
+use std::process::{ExitCode, ExitStatus};
+use std::time::Instant;
+
+/// One input: its kind, its name within the kind, its bytes and how they reach the program.
+pub struct Input {
+    kind: &'static str,
+    name: String,
+    bytes: Vec<u8>,
+    feed: Feed,
+}
+
+impl Input {
+    pub fn new(kind: &'static str, name: String, bytes: Vec<u8>) -> Input {
+        Input { kind, name, bytes, feed: Feed::Whole }
+    }
+
+    pub fn fed(kind: &'static str, name: String, bytes: Vec<u8>, feed: Feed) -> Input {
+        Input { kind, name, bytes, feed }
+    }
+}
+
+/// Where makers of inputs put them.
+pub type Sink<'a> = &'a mut dyn FnMut(Input);
+
+/// The kinds of inputs, quick ones first.
+const MAKERS: [fn(Sink); 17] = [
+    runs::sample_numbers,
+    runs::bands,
+    runs::curves,
+    damage::sheet_bytes,
+    damage::sheet_numbers,
+    damage::not_rising,
+    damage::sheet_lines,
+    damage::sample_bytes,
+    damage::sample_lines,
+    damage::noise,
+    runs::waits,
+    runs::drawn,
+    damage::pipe_cuts,
+    damage::pipe_blocks,
+    damage::long_lines,
+    runs::ramps,
+    runs::clearing,
+];
+
+const INPUTS_AT_LEAST: usize = 3000;
+const REACHED_AT_LEAST: usize = 100;
+/// After so many runs that a signal ended, the program's own or that of the watch over long runs, no more are begun.
+const SIGNALS_AT_MOST: usize = 3;
+const BITS: [&str; 9] = ["uv1", "uv2", "ov1", "ov2", "uf1", "uf2", "of1", "of2", "ready"];
+
+/// What the inputs reached, counted in what both programs wrote.
+#[derive(Default)]
+struct Reached {
+    kinds: Vec<(&'static str, usize)>,
+    inputs: usize,
+    bytes: usize,
+    statuses: [usize; 6],
+    refusals: [usize; 8],
+    bits: [usize; 9],
+}
+
+impl Reached {
+    fn input(&mut self, input: &Input) {
+        match self.kinds.iter_mut().find(|(kind, _)| *kind == input.kind) {
+            Some((_, count)) => *count += 1,
+            None => self.kinds.push((input.kind, 1)),
+        }
+        self.inputs += 1;
+        self.bytes += input.bytes.len();
+    }
+
+    fn output(&mut self, output: &[u8]) {
+        for line in output.split(|&byte| byte == b'\n').filter(|line| !line.is_empty()) {
+            let words: Vec<&[u8]> = line.split(|&byte| byte == b' ').collect();
+            if words[0] == b"(refused" {
+                self.refusals[usize::from(words[1][0] - b'1')] += 1;
+                continue;
+            }
+            let status = board::STATUS_WORDS.iter().position(|word| word.as_bytes() == words[1]);
+            self.statuses[status.expect("a status word")] += 1;
+            for (count, &bit) in self.bits.iter_mut().zip(words[2]) {
+                *count += usize::from(bit == b'1');
+            }
+        }
+    }
+
+    /// Each thing to be reached, with its count.
+    fn things(&self) -> Vec<(String, usize)> {
+        let named = |names: &[&str], counts: &[usize]| -> Vec<(String, usize)> {
+            names.iter().map(|name| name.to_string()).zip(counts.iter().copied()).collect()
+        };
+        let mut things = named(&board::STATUS_WORDS, &self.statuses);
+        things.extend((1..=8).map(|number| (format!("refused {number}"), self.refusals[number - 1])));
+        things.extend(named(&BITS, &self.bits).into_iter().map(|(name, count)| (format!("bit {name}"), count)));
+        things
+    }
+}
+
+/// The comparison's state: what is reached, what differs.
+struct Comparison {
+    program: String,
+    folder: String,
+    reached: Reached,
+    differences: usize,
+    signals: usize,
+}
+
+impl Comparison {
+    fn compare(&mut self, input: &Input) {
+        if self.signals == SIGNALS_AT_MOST {
+            return;
+        }
+        let mut expected = Vec::new();
+        board::run(input.bytes.as_slice(), &mut expected).expect("a write to memory");
+        let file = format!("{}/input", self.folder);
+        let (got, status) = feed::run(&self.program, &input.bytes, &input.feed, &file);
+        self.reached.input(input);
+        if got == expected && status.code().is_some() {
+            self.reached.output(&expected);
+            return;
+        }
+        self.differences += 1;
+        self.signals += usize::from(status.code().is_none());
+        if self.differences == 1 {
+            self.keep(input, &expected, &got, status);
+        } else if self.differences < 10 {
+            println!("difference: {}, {}", input.kind, input.name);
+        }
+    }
+
+    /// Keeps the first difference and says where it is.
+    fn keep(&self, input: &Input, expected: &[u8], got: &[u8], status: ExitStatus) {
+        let kept = format!("{}/first-difference", self.folder);
+        for (end, bytes) in [("in", input.bytes.as_slice()), ("expected", expected), ("got", got)] {
+            fs::write(format!("{kept}.{end}"), bytes).expect("the first difference");
+        }
+        println!("first difference: {}, {} (the program ended with {status})", input.kind, input.name);
+        println!("    kept in {kept}.in, .expected (the comparison program) and .got (the program)");
+        let lines = |bytes: &[u8]| -> Vec<Vec<u8>> { bytes.split(|&byte| byte == b'\n').map(<[u8]>::to_vec).collect() };
+        let (expected, got) = (lines(expected), lines(got));
+        let line = (0..).find(|&i| expected.get(i) != got.get(i) || i >= expected.len()).unwrap();
+        let shown = |lines: &[Vec<u8>]| lines.get(line).map_or("nothing".into(), |l| String::from_utf8_lossy(&l[..l.len().min(100)]).into_owned());
+        println!("    output line {}: expected {}, got {}", line + 1, shown(&expected), shown(&got));
+    }
+
+    /// Prints what was reached and gives how many conditions hold and how many do not.
+    fn conclude(&self) -> (usize, usize) {
+        if self.signals == SIGNALS_AT_MOST {
+            println!("stopped: signals ended {SIGNALS_AT_MOST} runs of the program");
+        }
+        println!("inputs by kind:");
+        for (kind, count) in &self.reached.kinds {
+            println!("{count:>9}  {kind}");
+        }
+        println!("{:>9}  in all, {} bytes", self.reached.inputs, self.reached.bytes);
+        println!("reached:");
+        let mut things = self.reached.things();
+        for (name, count) in &things {
+            println!("{count:>9}  {name}");
+        }
+        for (_, count) in &mut things {
+            *count = *count / REACHED_AT_LEAST;
+        }
+        things.push(("inputs".to_string(), self.reached.inputs / INPUTS_AT_LEAST));
+        for (name, _) in things.iter().filter(|(_, times)| *times == 0) {
+            println!("too few: {name}");
+        }
+        let held = things.iter().filter(|(_, times)| *times > 0).count();
+        (held, things.len() - held)
+    }
+}
+
+fn main() -> ExitCode {
+    let arguments: Vec<String> = env::args().collect();
+    let [_, program, folder, kinds @ ..] = arguments.as_slice() else {
+        println!("usage: compare PROGRAM FOLDER [KIND]");
+        return ExitCode::FAILURE;
+    };
+    feed::watch();
+    let begin = Instant::now();
+    let mut comparison =
+        Comparison { program: program.clone(), folder: folder.clone(), reached: Reached::default(), differences: 0, signals: 0 };
+    for make in MAKERS {
+        make(&mut |input| {
+            if kinds.is_empty() || kinds.iter().any(|kind| kind == input.kind) {
+                comparison.compare(&input);
+            }
+        });
+    }
+    let (held, short) = comparison.conclude();
+    println!("{} s", begin.elapsed().as_secs());
+    let (passed, failed) = (comparison.reached.inputs - comparison.differences + held, comparison.differences + short);
+    println!("{passed} passed, {failed} failed");
+    if failed == 0 { ExitCode::SUCCESS } else { ExitCode::FAILURE }
+}
