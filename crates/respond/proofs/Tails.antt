@@ -59,6 +59,7 @@ module _ (ends : Bool) (s d : List ℕ) (h : Handled) (inside : h .at ≤ length
   stays f =
       record {
         later = omega arith;
+        inside = inside;
         taken = omega arith;
         text = [];
         wrote = wrote-none d (h .written) full;
@@ -97,6 +98,7 @@ module _ (ends : Bool) (s d : List ℕ) (h : Handled) (inside : h .at ≤ length
     closes e d′ w′ wrote next is =
         record {
           later = inside;
+          inside = omega arith;
           taken = ap (λ (k : State). k .taken) is;
           text = endText (h .state) rest;
           wrote = wrote rest rest-length;
@@ -108,6 +110,7 @@ module _ (ends : Bool) (s d : List ℕ) (h : Handled) (inside : h .at ≤ length
     drops e long next is =
         record {
           later = inside;
+          inside = omega arith;
           taken = ap (λ (k : State). k .taken) is;
           text = [];
           wrote = wrote-none d (h .written) full;

@@ -89,6 +89,7 @@ module _ (s d d₁ d₂ : List ℕ) (h a : Handled) (first : Carried s d h d₁ 
       let t = first .stands in
       record {
         later = omega (arith, t .later, second .later);
+        inside = second .inside;
         taken = omega (arith, t .taken, second .taken, t .later, second .later);
         text = first .text ++ second .text;
         wrote = and-then (first .wrote) (second .wrote);
@@ -112,6 +113,9 @@ wild q block last d next e is =
       written = rw said (wrote-none d 0 (omega arith));
       done = rw is;
     }
+
+pub part-inside : (block : List ℕ) (end at : ℕ) → at ≤ length (take (end - 0) (drop 0 block)) → at ≤ length block
+part-inside block end at h = omega (arith, length-take (end - 0) block)
 
 module _ (q : State) (block : List ℕ) (last : Bool) (e : sensible q ≡ true) where
   fit : Fit q 0

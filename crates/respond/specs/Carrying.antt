@@ -63,6 +63,7 @@ Stuck s d h = isDone (h .state) ≡ false → h .written + lineRoom ≤ length d
 -- all that is handled of a block
 pub record Closed (ends : Bool) (s d : List ℕ) (h : Handled) (d′ : List ℕ) (r : Handled) : Type 0 where
   pub later : h .at ≤ r .at
+  pub inside : r .at ≤ length s
   pub taken : r .state .taken ≡ h .state .taken + (r .at - h .at)
   pub text : List ℕ
   pub wrote : Wrote d (h .written) d′ (r .written) text

@@ -97,6 +97,7 @@ fn least(a: usize, b: u64) -> usize
 // The answer to a block of input, `last` where the input ends with it: as many lines as are there and fit into the lent buffer.
 pub fn respond(state: State, block: &[u8], last: bool, out: &mut [u8]) -> Responded
     ensures { λ r. ⌜ Responds state (now (block .entry)) last (now (out .entry)) (now (out .exit)) r ⌝ }
+    ensures { λ r. ⌜ (r .taken ≤ length (now (block .entry))) × (r .written ≤ length (now (out .entry))) ⌝ }
 {
     if !sensible(state) {
         return Responded {

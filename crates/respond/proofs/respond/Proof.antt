@@ -4,7 +4,7 @@ use mathlib.Core.Path.{sym, _∙_}
 use native.Mathlib.Omega.{arith}
 use denote.Ref.{now}
 use borrow.Author.Tests.{not-true, not-false}
-use Rattle.respond.proofs.Whole.{wild, taken-low, fit-part, responds}
+use Rattle.respond.proofs.Whole.{wild, taken-low, fit-part, part-inside, responds}
 use borrow.Author.Needs.{needs}
 use Rattle.respond.proofs.respond.Statement.{statement}
 use Rattle.respond.proofs.respond.Tie as tie
@@ -19,7 +19,7 @@ returns : tie.Need-returns
 returns c =
     let a = c .before .before .before .before .before .args in
     let k = c .before .before .sensible in
-    wild (a .state) (now (a .block)) (a .last) (now (a .out)) (c .stop .result) (sym (k .ensures) ∙ not-true (k .result) (c .before .if1 .taken)) (c .stop .ensures)
+    (wild (a .state) (now (a .block)) (a .last) (now (a .out)) (c .stop .result) (sym (k .ensures) ∙ not-true (k .result) (c .before .if1 .taken)) (c .stop .ensures), (omega arith, omega arith))
 
 sub-budget : tie.Need-sub-budget
 sub-budget c =
@@ -59,7 +59,7 @@ returns-2 c =
     let l = c .before .before .before .before .before .before .before .least in
     let e = c .before .before .before .before .before .before .either in
     let r = c .before .before .before .handle in
-    responds (a .state) (now (a .block)) (a .last) (sym (k .ensures) ∙ not-false (k .result) (c .before .before .before .before .before .before .before .before .before .if1 .left)) (l .result) (l .ensures) (e .result) (e .ensures) (now (a .out)) _ (r .result) (r .ensures)
+    (responds (a .state) (now (a .block)) (a .last) (sym (k .ensures) ∙ not-false (k .result) (c .before .before .before .before .before .before .before .before .before .if1 .left)) (l .result) (l .ensures) (e .result) (e .ensures) (now (a .out)) _ (r .result) (r .ensures), (part-inside (now (a .block)) (l .result) (r .result .at) (r .ensures .inside), r .ensures .wrote .inside))
 
 pub respond-spec : {M : Type 1} → statement M
 respond-spec =
