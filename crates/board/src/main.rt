@@ -3,7 +3,7 @@
 ghost use mathlib.Core.Path.{_≡_};
 ghost use mathlib.Core.Bool.{_&&_};
 ghost use Prim.Native.Nat.{_+_, _-_, _≤_};
-ghost use lib.ListN.{length};
+ghost use lib.ListN.{length, take, drop};
 use libc::STDIN_FILENO;
 use libc::STDOUT_FILENO;
 use program::State;
@@ -75,7 +75,7 @@ fn read_to(buf: &mut [u8], have: usize, budget: u64) -> Got
 // The bytes from a place up to an end go to the front.
 fn to_front(buf: &mut [u8], from: usize, end: usize) -> usize
     requires { ⌜ (from ≤ end) × (end ≤ length (now buf)) ⌝ }
-    ensures { λ r. ⌜ r ≡ end - from ⌝ }
+    ensures { λ r. ⌜ (r ≡ end - from) × (take r (now (buf .exit)) ≡ take r (drop from (now (buf .entry)))) ⌝ }
 {
     let n = end - from;
     let mut i = 0;

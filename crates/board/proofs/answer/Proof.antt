@@ -1,80 +1,90 @@
+-- `board::answer` meets its contract, and ends: a turn that goes on has taken some bytes of the block.
+-- Assumes nothing.
+use mathlib.Core.Path.{_≡_, refl}
+use mathlib.Core.Bool.{cond}
+use Prim.Native.Nat.{_+_, _-_, _≤_}
+use native.Mathlib.Omega.{arith}
+use denote.Ref.{now}
+use lib.ListN.{length, drop, length-take, length-drop}
+use Rattle.board.proofs.Moving.{fewer}
+use borrow.Author.Needs.{needs}
 use Rattle.board.proofs.answer.Statement.{statement}
 use Rattle.board.proofs.answer.Tie as tie
-use Rattle.board.proofs.answer.Reads as reads
-use Rattle.board.proofs.answer.Lts as lts
-use Rattle.board.proofs.both.Reads as both-reads
-use Rattle.io.proofs.write_all.Reads as write-all-reads
-use Rattle.respond.proofs.respond.Reads as respond-reads
 
 abbrev Inv-loop : tie.InvT-loop
-Inv-loop block last out₀ end state₀ at₀ going₀ more₀ out state at going more = ?
+Inv-loop block last out₀ end state₀ at₀ going₀ more₀ out state at going more =
+    (at ≤ length block) × (length out ≡ length out₀)
 
 abbrev μ-loop : tie.MeasureT-loop
-μ-loop block last out₀ end state₀ at₀ going₀ more₀ out state at going more = ?
+μ-loop block last out₀ end state₀ at₀ going₀ more₀ out state at going more =
+    cond more (length block - at + 1) 0
 
--- src/main.rt:36:5
 loop-holds : tie.Need-loop-holds Inv-loop μ-loop
-loop-holds c = ?
+loop-holds c = (omega arith, refl)
 
--- src/main.rt:37:32
 sub-respond : tie.Need-sub-respond Inv-loop μ-loop
-sub-respond c = ?
+sub-respond c = search needs
 
--- src/main.rt:37:32
 part-respond-start : tie.Need-part-respond-start Inv-loop μ-loop
-part-respond-start c = ?
+part-respond-start c = search needs
 
--- src/main.rt:37:32
 part-respond-end : tie.Need-part-respond-end Inv-loop μ-loop
-part-respond-end c = ?
+part-respond-end c = search needs
 
--- src/main.rt:37:13
 respond-requires : tie.Need-respond-requires Inv-loop μ-loop
-respond-requires c κs = ?
+respond-requires c κs = search needs
 
--- src/main.rt:40:48
 sub-write-all : tie.Need-sub-write-all Inv-loop μ-loop
-sub-write-all c = ?
+sub-write-all c = search needs
 
--- src/main.rt:40:48
 part-write-all-start : tie.Need-part-write-all-start Inv-loop μ-loop
-part-write-all-start c = ?
+part-write-all-start c = search needs
 
--- src/main.rt:40:48
 part-write-all-end : tie.Need-part-write-all-end Inv-loop μ-loop
-part-write-all-end c = ?
+part-write-all-end c = search needs
 
--- src/main.rt:40:13
 write-all-requires : tie.Need-write-all-requires Inv-loop μ-loop
-write-all-requires c κs = ?
+write-all-requires c κs = search needs
 
--- src/main.rt:42:9
 add-at : tie.Need-add-at Inv-loop μ-loop
-add-at c = ?
+add-at c =
+    let w = c .before .before .before .before .before .before .before .before .before .before .loop in
+    let s = now (c .before .before .before .before .before .before .before .before .before .before .before .before .before .args .block) in
+    let t = c .before .before .before .before .before .before .respond .ensures .1 .0 in
+    let n = length-take (length s - w .at) (drop (w .at) s) in
+    let m = length-drop (w .at) s in
+    omega (arith, w .inv .0, n, m, t)
 
--- src/main.rt:43:9
 both-requires : tie.Need-both-requires Inv-loop μ-loop
-both-requires c κs = ?
+both-requires c κs = search needs
 
--- src/main.rt:44:9
 both-requires-2 : tie.Need-both-requires-2 Inv-loop μ-loop
-both-requires-2 c κs = ?
+both-requires-2 c κs = search needs
 
--- src/main.rt:36:5
 loop-less : tie.Need-loop-less Inv-loop μ-loop
-loop-less c = ?
+loop-less c =
+    let w = c .before .before .before .before .before .before .before .before .before .before .before .before .before .loop in
+    let s = now (c .before .before .before .before .before .before .before .before .before .before .before .before .before .before .before .before .args .block) in
+    let t = c .before .before .before .before .before .before .before .before .before .respond .ensures .1 .0 in
+    let n = length-take (length s - w .at) (drop (w .at) s) in
+    let m = length-drop (w .at) s in
+    let left : length s - (w .at + c .before .before .before .before .before .before .before .before .before .respond .result .taken) ≡ length s - w .at - c .before .before .before .before .before .before .before .before .before .respond .result .taken = omega arith in
+    rw (c .before .before .before .before .before .before .before .before .before .before .before .before .loop-test .taken, left) (fewer (c .both2 .result) (c .before .both .result) (length s - w .at) (c .before .before .before .before .before .before .before .before .before .respond .result .taken) (c .both2 .ensures) (omega (arith, w .inv .0, n, m, t)))
 
--- src/main.rt:36:5
 loop-again : tie.Need-loop-again Inv-loop μ-loop
-loop-again c = ?
+loop-again c =
+    let w = c .before .before .before .before .before .before .before .before .before .before .before .before .before .loop in
+    let s = now (c .before .before .before .before .before .before .before .before .before .before .before .before .before .before .before .before .args .block) in
+    let t = c .before .before .before .before .before .before .before .before .before .respond .ensures .1 .0 in
+    let n = length-take (length s - w .at) (drop (w .at) s) in
+    let m = length-drop (w .at) s in
+    (omega (arith, w .inv .0, n, m, t), search needs)
 
--- src/main.rt:28:1
 same-length : tie.Need-same-length Inv-loop μ-loop
-same-length c = ?
+same-length c = search needs
 
--- src/main.rt:28:1
 returns : tie.Need-returns Inv-loop μ-loop
-returns c = ?
+returns c = search needs
 
 pub answer-spec : {M : Type 1} → statement M
 answer-spec =

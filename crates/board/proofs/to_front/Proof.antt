@@ -1,53 +1,57 @@
+-- `board::to_front` meets its contract.
+-- Assumes nothing.
+use mathlib.Core.Path.{_≡_, refl, ap, _∙_}
+use Prim.Native.Nat.{_+_, _-_, _≤_}
+use native.Mathlib.Omega.{arith}
+use lib.ListN.{length, length-set, take}
+use denote.Ref.{now}
+use Rattle.board.proofs.Moving.{moved, one-more, moved-front}
+use borrow.Author.Needs.{needs}
 use Rattle.board.proofs.to_front.Statement.{statement}
 use Rattle.board.proofs.to_front.Tie as tie
-use Rattle.board.proofs.to_front.Reads as reads
-use Rattle.board.proofs.to_front.Lts as lts
 
 abbrev Inv-loop : tie.InvT-loop
-Inv-loop buf₀ from end n i₀ buf i = ?
+Inv-loop buf₀ from end n i₀ buf i = (buf ≡ moved buf₀ from i) × (i ≤ n) × (length buf ≡ length buf₀)
 
 abbrev μ-loop : tie.MeasureT-loop
-μ-loop buf₀ from end n i₀ buf i = ?
+μ-loop buf₀ from end n i₀ buf i = n - i
 
--- src/main.rt:80:13
 sub-n : tie.Need-sub-n Inv-loop μ-loop
-sub-n c = ?
+sub-n c = search needs
 
--- src/main.rt:82:5
 loop-holds : tie.Need-loop-holds Inv-loop μ-loop
-loop-holds c = ?
+loop-holds c = (refl, omega arith, refl)
 
--- src/main.rt:83:22
 add-buf : tie.Need-add-buf Inv-loop μ-loop
-add-buf c = ?
+add-buf c = search needs
 
--- src/main.rt:83:18
 slice-read-buf : tie.Need-slice-read-buf Inv-loop μ-loop
-slice-read-buf c = ?
+slice-read-buf c = search needs
 
--- src/main.rt:83:9
 slice-write-buf : tie.Need-slice-write-buf Inv-loop μ-loop
-slice-write-buf c = ?
+slice-write-buf c = search needs
 
--- src/main.rt:84:9
 add-i : tie.Need-add-i Inv-loop μ-loop
-add-i c = ?
+add-i c = search needs
 
--- src/main.rt:82:5
 loop-less : tie.Need-loop-less Inv-loop μ-loop
-loop-less c = ?
+loop-less c = search needs
 
--- src/main.rt:82:5
 loop-again : tie.Need-loop-again Inv-loop μ-loop
-loop-again c = ?
+loop-again c =
+    let w = c .before .before .loop in
+    let a = c .before .before .before .args in
+    (rw (w .inv .0) (one-more (now (a .buf)) (a .from) (w .i) (omega arith)), omega arith, length-set (w .buf) (w .i) _ ∙ w .inv .2)
 
--- src/main.rt:76:1
 same-length : tie.Need-same-length Inv-loop μ-loop
-same-length c = ?
+same-length c = search needs
 
--- src/main.rt:76:1
 returns : tie.Need-returns Inv-loop μ-loop
-returns c = ?
+returns c =
+    let w = c .before .loop in
+    let a = c .before .before .args in
+    let n : w .i ≡ a .end - a .from = omega arith in
+    (refl, rw (← n, w .inv .0) (moved-front (now (a .buf)) (a .from) (w .i) (omega arith)))
 
 pub to-front-spec : {M : Type 1} → statement M
 to-front-spec =
