@@ -51,11 +51,12 @@ fn read_over(before: Settings, bytes: &[u8]) -> SheetCall
     let outcome = sheet::read(bytes);
     let check = outcome.check;
     let start = outcome.start;
+    let read = outcome.settings;
     let part = sheet::part_from(bytes, check, start);
     let length = part.len();
     match check {
         SettingsCheck::Accepted => SheetCall {
-            settings: outcome.settings,
+            settings: read,
             answer: SheetAnswer {
                 number: 0,
                 line: 0,
@@ -83,7 +84,8 @@ fn step_over(b: Board, s: Settings, sample: &[u32], before: Report) -> StepCall
 {
     let next = service::step::step(b, s, sample);
     let board = next.board;
-    match next.answer {
+    let answer = next.answer;
+    match answer {
         Answer::Reported(report) => StepCall {
             board,
             report,
