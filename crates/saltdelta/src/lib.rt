@@ -129,7 +129,12 @@ pub extern "C" fn saltdelta_read_sheet(settings: &mut Settings, bytes: &[u8]) ->
 
 // A step of the lent record, and its report; a refused one leaves both as they were.
 #[no_mangle]
-pub extern "C" fn saltdelta_step(board: &mut Board, settings: &Settings, sample: &[u32], report: &mut Report) -> u32
+pub extern "C" fn saltdelta_step(
+    board: &mut Board,
+    settings: &Settings,
+    sample: &[u32],
+    report: &mut Report,
+) -> u32
     ensures { λ r. ⌜ (now (board .exit) ≡ recordAfter (now (board .entry)) (now (settings .entry)) (now (sample .entry)))
         × (now (report .exit) ≡ reportAfter (now (report .entry)) (now (board .entry)) (now (settings .entry)) (now (sample .entry)))
         × (r ≡ stepNumber (now (board .entry)) (now (settings .entry)) (now (sample .entry))) ⌝ }
