@@ -283,17 +283,20 @@ fn compare_sheet(tally: &mut Tally, settings: &mut Settings, bytes: &[u8]) -> u3
 
 // ---- the groups
 
-/// Boards from fresh: samples as they come, some refused, and the image after each.
-fn boards(tally: &mut Tally, dice: &mut Dice) {
+/// Boards from fresh: mostly steady samples, often such that let it return, some refused; `seen` counts the statuses reported.
+fn boards(tally: &mut Tally, dice: &mut Dice, seen: &mut [u64; 10]) {
     for _ in 0..1000 {
         let mut board = compare_fresh(tally);
         let good = settings_of(&good_pairs(dice));
         let mut report = wild_report(dice);
-        let steady = sample(dice, false);
-        for _ in 0..100 {
-            let s = if dice.one_in(3) { sample(dice, true) } else { steady.clone() };
+        let steady = if dice.one_in(4) { sample(dice, false) } else { vec![1000, 1010, 990, 60000, 1, 10000, 9000] };
+        let often = dice.within(2, 40) as u64;
+        for _ in 0..150 {
+            let s = if dice.one_in(often) { sample(dice, true) } else { steady.clone() };
             let settings = if dice.one_in(20) { settings_of(&wild_pairs(dice)) } else { good };
-            compare_step(tally, &mut board, &settings, &s, &mut report);
+            if compare_step(tally, &mut board, &settings, &s, &mut report) == 0 {
+                seen[report.status as usize] += 1;
+            }
         }
         compare_save(tally, &board, &mut [0xAA; 50]);
     }
@@ -370,8 +373,9 @@ fn sheets(tally: &mut Tally, dice: &mut Dice, seen: &mut [u64; 10]) {
 fn main() {
     let mut tally = Tally::default();
     let mut seen = [0; 10];
-    boards(&mut tally, &mut Dice(0x5A17_DE17A));
-    println!("boards: 1000 from fresh, 100 steps and a saving each");
+    boards(&mut tally, &mut Dice(1_547_2018), &mut seen);
+    println!("boards: 1000 from fresh, 150 steps and a saving each; statuses reported {:?}", &seen[..6]);
+    let mut seen = [0; 10];
     steps(&mut tally, &mut Dice(20_260_101), &mut seen);
     println!("steps: numbers answered {:?}", &seen[..9]);
     let mut seen = [0; 10];
