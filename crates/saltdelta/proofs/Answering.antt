@@ -1,6 +1,6 @@
 -- What a call answers, from what the operation below it says.
 -- Assumes nothing.
-use mathlib.Core.Path.{_≡_, refl, sym, ap, ap₂, _∙_}
+use mathlib.Core.Path.{_≡_, sym, ap, ap₂, _∙_}
 use mathlib.Core.List.{List}
 use Prim.Native.Nat.{ℕ, _<_, _^_}
 use native.Mathlib.Omega.{arith}
@@ -56,14 +56,15 @@ module _ (b : Board) (s : Settings) (x : Slice) (before : Report) (t : Stepped) 
 
 -- ---- a sheet
 
+abbrev made : SettingsCheck → ℕ → List ℕ → SheetAnswer
+made check start part = record { number = settingsNumber check; line = lineOf check; start = start; length = length part }
+
 module _ (s : List ℕ) (before : Settings) (d : SheetOutcome) (e : Gives d (readSheet s)) (part : List ℕ) (h : part ≡ handedBack s) where
-  found : (check : SettingsCheck) → d .check ≡ check
-      → (settingsOr before check (d .settings) ≡ settingsAfter before s)
-      × (record { number = settingsNumber check; line = lineOf check; start = d .start; length = length part } ≡ sheetAnswer s)
+  found : (check : SettingsCheck) → d .check ≡ check → (settingsOr before check (d .settings) ≡ settingsAfter before s) × (made check (d .start) part ≡ sheetAnswer s)
   unfolding settingsAfter sheetAnswer
   found check told =
       let checked : check ≡ readSheet s .check = sym told ∙ e .check in
-      (ap₂ (settingsOr before) checked (e .settings), rw (← checked, ← e .start, ← h) refl)
+      (ap₂ (settingsOr before) checked (e .settings), ap (λ (k : SettingsCheck). made k (d .start) part) checked ∙ ap₂ (made (readSheet s .check)) (e .start) h)
 
   pub accepted : d .check ≡ SettingsCheck.Accepted
       → (d .settings ≡ settingsAfter before s) × (record { number = 0; line = 0; start = d .start; length = length part } ≡ sheetAnswer s)
