@@ -4,8 +4,8 @@
  *     cc program.c -Iinclude target/staticlib/libsaltdelta.a
  *
  * Four functions: a fresh board record, reading a sheet of settings, one step of 10 ms, saving a record's image. The library keeps
- * nothing between calls, allocates nothing and calls nothing of the system: all memory is the caller's. Any number may stand in what
- * is lent, for there is an answer to each; crates/saltdelta/src/lib.rt says which, and that is proved.
+ * nothing between calls and allocates nothing; it needs memcpy and some 10 kB of stack. Any number may stand in what is lent, for there
+ * is an answer to each; the contracts in crates/saltdelta/src/lib.rt say which, and that is proved.
  *
  * UNITS. Voltage in ten-thousandths of nominal, frequency in millihertz, power in ten-thousandths of rating, time in steps of 10 ms.
  *

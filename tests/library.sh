@@ -1,6 +1,6 @@
 #!/usr/bin/env bash
 # The library: libsaltdelta.a is made, proofs checked, and called from C and from Rust; both are held against the comparison program.
-# A pass is a call that agrees with it, or a sheet that C reads as document 01 says.
+# A pass is a case: a run of calls that all agree with it (a board's life, or a hundred calls), or a sheet that C reads as document 01 says.
 set -u
 cd "$(dirname "$0")/.." || exit 2
 out=target/library
@@ -21,7 +21,7 @@ add() {
     counts=$(tail -n 1 "$1" | sed -n 's/^\([0-9][0-9]*\) passed, \([0-9][0-9]*\) failed$/\1 \2/p')
     [ -n "$counts" ] || counts="0 1"
     sed '$d' "$1"
-    echo "$2: ${counts% *} agree, ${counts#* } differ"
+    echo "$2: ${counts% *} cases agree, ${counts#* } differ"
     passed=$((passed + ${counts% *}))
     failed=$((failed + ${counts#* }))
 }
@@ -29,10 +29,12 @@ add() {
 "$out/check-c" "$out/calls" "$out/answers" > "$out/c-sheets.log" || echo "check-c ends with $?"
 add "$out/c-sheets.log" "C, sheets"
 "$out/comparison" calls < "$out/calls" > "$out/expected"
-awk 'NR == FNR { want[FNR] = $0; lines = FNR; next }
-    FNR in want && want[FNR] == $0 { same++; next }
-    { other++; if (other <= 5) print "line " FNR ": " $0 ", not " want[FNR] }
-    END { if (FNR < lines) other += lines - FNR; print same + 0 " passed, " other + 0 " failed" }' "$out/expected" "$out/answers" > "$out/c-calls.log"
+# a case is the calls from one `fresh` to the next
+paste -d '\t' "$out/calls" "$out/expected" "$out/answers" | awk -F '\t' '
+    function ends() { if (NR > 1) { if (other) failed++; else passed++ } other = 0 }
+    $1 == "fresh" { ends() }
+    $2 != $3 { other++; if (shown++ < 5) print "line " NR ": " $3 ", not " $2 }
+    END { NR++; ends(); print "calls: " NR - 1 ", " shown + 0 " of them differ"; print passed + 0 " passed, " failed + 0 " failed" }' > "$out/c-calls.log"
 add "$out/c-calls.log" "C, calls"
 "$out/check-rust" > "$out/rust.log" || echo "check-rust ends with $?"
 add "$out/rust.log" "Rust, calls"

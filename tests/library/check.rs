@@ -1,7 +1,7 @@
 //! The library from Rust: target/staticlib/libsaltdelta.a against the comparison program, the same calls to both.
 //!
 //! Every call's number, and all memory lent to it, refused calls' too, must be the comparison program's. The calls are made from fixed
-//! seeds. The last line is 'N passed, M failed', in calls compared.
+//! seeds. The last line is 'N passed, M failed', in cases: some hundred calls each, which all agree or not.
 
 #[allow(dead_code)]
 #[path = "../../comparison/board.rs"]
@@ -218,26 +218,40 @@ fn report_of(r: &other::Report) -> Report {
 
 #[derive(Default)]
 struct Tally {
+    calls: u64,
+    differ: u64,
+    differ_in_case: u64,
     passed: u64,
     failed: u64,
 }
 
 impl Tally {
-    fn add(&mut self, same: bool, what: impl FnOnce() -> String) {
+    fn call(&mut self, same: bool, what: impl FnOnce() -> String) {
+        self.calls += 1;
         if same {
-            self.passed += 1;
             return;
         }
-        self.failed += 1;
-        if self.failed <= 10 {
+        self.differ += 1;
+        self.differ_in_case += 1;
+        if self.differ <= 10 {
             println!("differs: {}", what());
         }
+    }
+
+    /// The calls since the last case are one case.
+    fn case(&mut self) {
+        if self.differ_in_case == 0 {
+            self.passed += 1;
+        } else {
+            self.failed += 1;
+        }
+        self.differ_in_case = 0;
     }
 }
 
 fn compare_fresh(tally: &mut Tally) -> Board {
     let b = library::fresh();
-    tally.add(other_record(&b) == other::fresh(), || format!("fresh: {:?}", b));
+    tally.call(other_record(&b) == other::fresh(), || format!("fresh: {:?}", b));
     b
 }
 
@@ -250,7 +264,7 @@ fn compare_step(tally: &mut Tally, board: &mut Board, settings: &Settings, sampl
     };
     let found = library::step(board, settings, sample, report);
     let same = found == number && other_record(board) == record && *report == reported && *settings == lent.1;
-    tally.add(same, || format!("step of {:?} with {:?}: {} {:?} {:?}, not {} {:?} {:?}", lent, sample, found, board, report, number, record, reported));
+    tally.call(same, || format!("step of {:?} with {:?}: {} {:?} {:?}, not {} {:?} {:?}", lent, sample, found, board, report, number, record, reported));
     found
 }
 
@@ -260,7 +274,7 @@ fn compare_save(tally: &mut Tally, board: &Board, buffer: &mut [u8]) -> u32 {
     let number = other::save(&other_record(board), &mut bytes).map_or_else(u32::from, |()| 0);
     let found = library::save(board, buffer);
     let same = found == number && buffer == bytes && *board == lent;
-    tally.add(same, || format!("save of {:?}: {} {:?}, not {} {:?}", lent, found, buffer, number, bytes));
+    tally.call(same, || format!("save of {:?}: {} {:?}, not {} {:?}", lent, found, buffer, number, bytes));
     found
 }
 
@@ -277,7 +291,7 @@ fn compare_sheet(tally: &mut Tally, settings: &mut Settings, bytes: &[u8]) -> u3
     };
     let found = library::read_sheet(settings, bytes);
     let same = found == expected && other_settings(settings) == after;
-    tally.add(same, || format!("sheet {:?}: {:?}, not {:?}", String::from_utf8_lossy(bytes), found, expected));
+    tally.call(same, || format!("sheet {:?}: {:?}, not {:?}", String::from_utf8_lossy(bytes), found, expected));
     found.number
 }
 
@@ -299,22 +313,27 @@ fn boards(tally: &mut Tally, dice: &mut Dice, seen: &mut [u64; 10]) {
             }
         }
         compare_save(tally, &board, &mut [0xAA; 50]);
+        tally.case();
     }
 }
 
 /// Records, settings and slices of any kind; `seen` counts the numbers answered.
 fn steps(tally: &mut Tally, dice: &mut Dice, seen: &mut [u64; 10]) {
-    for _ in 0..100_000 {
+    for i in 1..=100_000 {
         let pairs = if dice.one_in(4) { wild_pairs(dice) } else { good_pairs(dice) };
         let settings = settings_of(&pairs);
         let s = sample(dice, true);
         let number = compare_step(tally, &mut wild_record(dice), &settings, &s, &mut wild_report(dice));
         seen[number as usize] += 1;
+        if i % 100 == 0 {
+            tally.case();
+        }
     }
     for n in 0..=64 {
         let s = vec![1000; n];
         seen[compare_step(tally, &mut wild_record(dice), &settings_of(&good_pairs(dice)), &s, &mut wild_report(dice)) as usize] += 1;
     }
+    tally.case();
 }
 
 /// Records of any kind into buffers of 0 to 50 bytes.
@@ -324,6 +343,7 @@ fn saves(tally: &mut Tally, dice: &mut Dice, seen: &mut [u64; 10]) {
             let mut buffer: Vec<u8> = (0..length).map(|_| dice.next() as u8).collect();
             seen[compare_save(tally, &wild_record(dice), &mut buffer) as usize] += 1;
         }
+        tally.case();
     }
 }
 
@@ -353,7 +373,7 @@ fn damage(dice: &mut Dice, sheet: &mut Vec<u8>) {
 
 /// Sheets good, out of range and damaged, with bytes after them, read over settings of any kind.
 fn sheets(tally: &mut Tally, dice: &mut Dice, seen: &mut [u64; 10]) {
-    for _ in 0..20_000 {
+    for i in 1..=20_000 {
         let pairs = if dice.one_in(2) { wild_pairs(dice) } else { good_pairs(dice) };
         let mut sheet = sheet_of(&pairs);
         if dice.one_in(2) {
@@ -363,11 +383,15 @@ fn sheets(tally: &mut Tally, dice: &mut Dice, seen: &mut [u64; 10]) {
             sheet.extend_from_slice(&b"(at (1000 1000 1000) 60000 1 10000 10000)\n"[..dice.below(43) as usize]);
         }
         seen[compare_sheet(tally, &mut settings_of(&wild_pairs(dice)), &sheet) as usize] += 1;
+        if i % 100 == 0 {
+            tally.case();
+        }
     }
     let sheet = other::DEFAULT_SHEET.as_bytes();
     for n in 0..=sheet.len() {
         seen[compare_sheet(tally, &mut settings_of(&wild_pairs(dice)), &sheet[..n]) as usize] += 1;
     }
+    tally.case();
 }
 
 fn main() {
@@ -384,6 +408,7 @@ fn main() {
     let mut seen = [0; 10];
     sheets(&mut tally, &mut Dice(13), &mut seen);
     println!("sheets: numbers answered {:?}", &seen[..4]);
+    println!("calls: {}, {} of them differ", tally.calls, tally.differ);
     println!("{} passed, {} failed", tally.passed, tally.failed);
     if tally.failed > 0 {
         std::process::exit(1);

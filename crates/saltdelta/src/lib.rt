@@ -1,7 +1,6 @@
 // The library for C and Rust: document 01's operations at a C boundary. include/saltdelta.h says what each number means and what a
 // caller owes. A refused call answers with document 01's number of its cause and leaves all lent memory as it was.
 ghost use mathlib.Core.Path.{_≡_};
-ghost use Rattle.rules.specs.Regions.{ourEquipment};
 ghost use Rattle.rules.specs.Refusals.{refusalNumber, savedNumber};
 ghost use Rattle.rules.specs.Records.{fresh};
 ghost use Rattle.rules.specs.Images.{saveCheck, savedInto};
@@ -25,6 +24,52 @@ pub struct SheetAnswer {
     pub length: usize,
 }
 
+// A fresh board record.
+#[no_mangle]
+pub extern "C" fn saltdelta_fresh() -> Board
+    ensures { λ b. ⌜ b ≡ fresh ⌝ }
+{
+    service::fresh()
+}
+
+// Reads the sheet at the front of lent bytes into lent settings; a refused sheet leaves them as they were.
+#[no_mangle]
+pub extern "C" fn saltdelta_read_sheet(settings: &mut Settings, bytes: &[u8]) -> SheetAnswer
+    ensures { λ r. ⌜ (now (settings .exit) ≡ settingsAfter (now (settings .entry)) (now (bytes .entry))) × (r ≡ sheetAnswer (now (bytes .entry))) ⌝ }
+{
+    let next = read_over(*settings, bytes);
+    *settings = next.settings;
+    next.answer
+}
+
+// A step of the lent record, and its report; a refused one leaves both as they were.
+#[no_mangle]
+pub extern "C" fn saltdelta_step(
+    board: &mut Board,
+    settings: &Settings,
+    sample: &[u32],
+    report: &mut Report,
+) -> u32
+    ensures { λ r. ⌜ (now (board .exit) ≡ recordAfter (now (board .entry)) (now (settings .entry)) (now (sample .entry)))
+        × (now (report .exit) ≡ reportAfter (now (report .entry)) (now (board .entry)) (now (settings .entry)) (now (sample .entry)))
+        × (r ≡ stepNumber (now (board .entry)) (now (settings .entry)) (now (sample .entry))) ⌝ }
+{
+    let next = step_over(*board, *settings, sample, *report);
+    *board = next.board;
+    *report = next.report;
+    next.number
+}
+
+// The lent record's image at the front of a lent buffer; a buffer under 45 bytes keeps every byte.
+#[no_mangle]
+pub extern "C" fn saltdelta_save(board: &Board, buffer: &mut [u8]) -> u32
+    ensures { λ r. ⌜ (r ≡ savedNumber (saveCheck (now (buffer .entry)))) × (now (buffer .exit) ≡ savedInto (now (board .entry)) (now (buffer .entry))) ⌝ }
+{
+    save_number(*board, buffer)
+}
+
+// ---- the calls by value
+
 // The answer of a sheet, with the settings beside it.
 struct SheetCall {
     settings: Settings,
@@ -38,6 +83,7 @@ struct StepCall {
     number: u32,
 }
 
+// The number of a cause.
 fn number_of(cause: Refusal) -> u32
     ensures { λ r. ⌜ r ≡ refusalNumber cause ⌝ }
 {
@@ -107,48 +153,4 @@ fn save_number(b: Board, out: &mut [u8]) -> u32
         Saved::Written => 0,
         Saved::Refused(cause) => number_of(cause),
     }
-}
-
-// A fresh board record.
-#[no_mangle]
-pub extern "C" fn saltdelta_fresh() -> Board
-    ensures { λ b. ⌜ b ≡ fresh ⌝ }
-{
-    service::fresh()
-}
-
-// Reads the sheet at the front of lent bytes into lent settings; a refused sheet leaves them as they were.
-#[no_mangle]
-pub extern "C" fn saltdelta_read_sheet(settings: &mut Settings, bytes: &[u8]) -> SheetAnswer
-    ensures { λ r. ⌜ (now (settings .exit) ≡ settingsAfter (now (settings .entry)) (now (bytes .entry))) × (r ≡ sheetAnswer (now (bytes .entry))) ⌝ }
-{
-    let next = read_over(*settings, bytes);
-    *settings = next.settings;
-    next.answer
-}
-
-// A step of the lent record, and its report; a refused one leaves both as they were.
-#[no_mangle]
-pub extern "C" fn saltdelta_step(
-    board: &mut Board,
-    settings: &Settings,
-    sample: &[u32],
-    report: &mut Report,
-) -> u32
-    ensures { λ r. ⌜ (now (board .exit) ≡ recordAfter (now (board .entry)) (now (settings .entry)) (now (sample .entry)))
-        × (now (report .exit) ≡ reportAfter (now (report .entry)) (now (board .entry)) (now (settings .entry)) (now (sample .entry)))
-        × (r ≡ stepNumber (now (board .entry)) (now (settings .entry)) (now (sample .entry))) ⌝ }
-{
-    let next = step_over(*board, *settings, sample, *report);
-    *board = next.board;
-    *report = next.report;
-    next.number
-}
-
-// The lent record's image at the front of a lent buffer; a buffer under 45 bytes keeps every byte.
-#[no_mangle]
-pub extern "C" fn saltdelta_save(board: &Board, buffer: &mut [u8]) -> u32
-    ensures { λ r. ⌜ (r ≡ savedNumber (saveCheck (now (buffer .entry)))) × (now (buffer .exit) ≡ savedInto (now (board .entry)) (now (buffer .entry))) ⌝ }
-{
-    save_number(*board, buffer)
 }
