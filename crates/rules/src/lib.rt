@@ -1,24 +1,29 @@
-// The declared types of the interface board. What they mean stands in specs/, in the order of document 01.
+// The declared types of the interface board. What they mean stands in specs/, in the order of document 01. Those that a C or Rust
+// program lends are laid out as C lays them out.
 
 // A trip line: a voltage or frequency limit, and its clearing time in steps.
+#[repr(C)]
 pub struct Limit {
     pub level: u32,
     pub clearing: u32,
 }
 
 // An enter-service criterion: a range with both ends included.
+#[repr(C)]
 pub struct Span {
     pub low: u32,
     pub high: u32,
 }
 
 // A point of a volt-var or volt-watt curve.
+#[repr(C)]
 pub struct Point {
     pub volts: u32,
     pub power: i32,
 }
 
 // A sheet: the eight trip lines in sheet order, the enter-service lines with return wait and ramp length, and the two curves.
+#[repr(C)]
 pub struct Settings {
     pub trip: [Limit; 8],
     pub volts: Span,
@@ -31,6 +36,7 @@ pub struct Settings {
 
 // The board record that a host keeps and lends: its nine counters are the limits' in sheet order and then the ninth, and
 // `ramp` is the ramp count.
+#[repr(C)]
 pub struct Board {
     pub status: u8,
     pub counters: [u32; 9],
@@ -40,6 +46,7 @@ pub struct Board {
 }
 
 // A report. Its nine bits are one number, uv1 highest and ready lowest.
+#[repr(C)]
 pub struct Report {
     pub status: u8,
     pub bits: u16,

@@ -1,0 +1,80 @@
+-- What a call answers, from what the operation below it says.
+-- Assumes nothing.
+use mathlib.Core.Path.{_≡_, sym, ap, ap₂, _∙_}
+use mathlib.Core.List.{List}
+use Prim.Native.Nat.{ℕ, _<_, _^_}
+use native.Mathlib.Omega.{arith}
+use lib.ListN.{length}
+use Rattle.rules.specs.Samples.{Slice}
+use Rattle.rules.specs.Regions.{ourEquipment}
+use Rattle.rules.specs.Refusals.{refusalNumber, settingsNumber, answerNumber, savedNumber}
+use Rattle.rules.specs.Records.{stepOf}
+use Rattle.rules.specs.Images.{saveCheck}
+use Rattle.rules.specs.Sheets.{readSheet, handedBack}
+use Rattle.rules.specs.declared.Board.{Board}
+use Rattle.rules.specs.declared.Report.{Report}
+use Rattle.rules.specs.declared.Answer.{Answer}
+use Rattle.rules.specs.declared.Saved.{Saved}
+use Rattle.rules.specs.declared.Stepped.{Stepped}
+use Rattle.rules.specs.declared.Settings.{Settings}
+use Rattle.rules.specs.declared.SettingsCheck.{SettingsCheck}
+use Rattle.rules.specs.declared.Refusal.{Refusal}
+use Rattle.rules.specs.declared.Refusal.the-variants.{Form, Range, Rise, Code, Frequency, Permission, Power, Sample, Buffer}
+use Rattle.sheet.specs.Outcomes.{Gives}
+use Rattle.sheet.specs.declared.SheetOutcome.{SheetOutcome}
+use Rattle.saltdelta.specs.declared.SheetAnswer.{SheetAnswer}
+use Rattle.saltdelta.specs.Answers.{recordAfter, reportAfter, reportOr, stepNumber, sheetAnswer, lineOf, settingsAfter, settingsOr}
+
+-- a cause's number is small
+pub number-small : (cause : Refusal) → refusalNumber cause < 2 ^ 32
+number-small Form = omega arith
+number-small Range = omega arith
+number-small Rise = omega arith
+number-small Code = omega arith
+number-small Frequency = omega arith
+number-small Permission = omega arith
+number-small Power = omega arith
+number-small Sample = omega arith
+number-small Buffer = omega arith
+
+-- ---- a step
+
+module _ (b : Board) (s : Settings) (x : Slice) (before : Report) (t : Stepped) (e : t ≡ stepOf ourEquipment b s x) where
+  answers : (a : Answer) → t .answer ≡ a → (t .board ≡ recordAfter b s x) × (reportOr before a ≡ reportAfter before b s x) × (answerNumber a ≡ stepNumber b s x)
+  unfolding recordAfter reportAfter stepNumber
+  answers a told =
+      let answered : a ≡ stepOf ourEquipment b s x .answer = sym told ∙ ap (λ (u : Stepped). u .answer) e in
+      (ap (λ (u : Stepped). u .board) e, ap (reportOr before) answered, ap answerNumber answered)
+
+  pub reported : (r : Report) → t .answer ≡ Answer.Reported r → (t .board ≡ recordAfter b s x) × (r ≡ reportAfter before b s x) × (0 ≡ stepNumber b s x)
+  reported r told = answers (Answer.Reported r) told
+
+  pub refused : (cause : Refusal) (n : ℕ) → t .answer ≡ Answer.Refused cause → n ≡ refusalNumber cause → (t .board ≡ recordAfter b s x) × (before ≡ reportAfter before b s x) × (n ≡ stepNumber b s x)
+  refused cause n told numbered =
+      let all = answers (Answer.Refused cause) told in
+      (all .0, all .1, numbered ∙ all .2)
+
+-- ---- a sheet
+
+abbrev made : SettingsCheck → ℕ → List ℕ → SheetAnswer
+made check start part = record { number = settingsNumber check; line = lineOf check; start = start; length = length part }
+
+module _ (s : List ℕ) (before : Settings) (d : SheetOutcome) (e : Gives d (readSheet s)) (part : List ℕ) (h : part ≡ handedBack s) where
+  found : (check : SettingsCheck) → d .check ≡ check → (settingsOr before check (d .settings) ≡ settingsAfter before s) × (made check (d .start) part ≡ sheetAnswer s)
+  unfolding settingsAfter sheetAnswer
+  found check told =
+      let checked : check ≡ readSheet s .check = sym told ∙ e .check in
+      (ap₂ (settingsOr before) checked (e .settings), ap (λ (k : SettingsCheck). made k (d .start) part) checked ∙ ap₂ (made (readSheet s .check)) (e .start) h)
+
+  pub accepted : d .check ≡ SettingsCheck.Accepted
+      → (d .settings ≡ settingsAfter before s) × (record { number = 0; line = 0; start = d .start; length = length part } ≡ sheetAnswer s)
+  accepted told = found SettingsCheck.Accepted told
+
+  pub turned-away : (cause : Refusal) (line n : ℕ) → d .check ≡ SettingsCheck.Refused cause line → n ≡ refusalNumber cause
+      → (before ≡ settingsAfter before s) × (record { number = n; line = line; start = d .start; length = length part } ≡ sheetAnswer s)
+  turned-away cause line n told numbered = rw numbered (found (SettingsCheck.Refused cause line) told)
+
+-- ---- a saving
+
+pub saved : (buffer : List ℕ) (r a : Saved) → r ≡ saveCheck buffer → r ≡ a → savedNumber a ≡ savedNumber (saveCheck buffer)
+saved buffer r a e told = ap savedNumber (sym told ∙ e)

@@ -1,0 +1,41 @@
+-- `saltdelta::step_over` meets its contract: the record, the report and the number of what the step says (`Answering.antt`).
+-- Assumes nothing.
+use Rattle.saltdelta.proofs.Answering.{reported, refused}
+use borrow.Author.Needs.{needs}
+use Rattle.saltdelta.proofs.step_over.Statement.{statement}
+use Rattle.saltdelta.proofs.step_over.Tie as tie
+
+step-requires : tie.Need-step-requires
+step-requires c κs = search needs
+
+enum-known-answer : tie.Need-enum-known-answer
+enum-known-answer c = search needs
+
+enum-known-answer-2 : tie.Need-enum-known-answer-2
+enum-known-answer-2 c = search needs
+
+number-of-requires : tie.Need-number-of-requires
+number-of-requires c κs = search needs
+
+returns : tie.Need-returns
+returns c =
+    let a = c .before .before .before .before .before .before .args in
+    let t = c .before .before .before .before .step in
+    reported (a .b) (a .s) _ (a .before) (t .result) (t .ensures) _ (c .before .answer .given .1)
+
+returns-2 : tie.Need-returns-2
+returns-2 c =
+    let a = c .before .before .before .before .before .before .before .args in
+    let t = c .before .before .before .before .before .step in
+    refused (a .b) (a .s) _ (a .before) (t .result) (t .ensures) _ _ (c .before .before .answer2 .given .1) (c .number-of .ensures)
+
+pub step-over-spec : {M : Type 1} → statement M
+step-over-spec =
+    tie.close
+    (tie.spec
+    step-requires
+    enum-known-answer
+    enum-known-answer-2
+    number-of-requires
+    returns
+    returns-2)

@@ -1,0 +1,59 @@
+-- What the calls of the C boundary answer and leave in lent memory, from the rules' step and the rules' reading of a sheet.
+-- Assumes nothing.
+use mathlib.Core.List.{List}
+use Prim.Native.Nat.{ℕ}
+use lib.ListN as L
+use Rattle.rules.specs.Samples.{Slice}
+use Rattle.rules.specs.Regions.{ourEquipment}
+use Rattle.rules.specs.Refusals.{settingsNumber, answerNumber}
+use Rattle.rules.specs.Records.{stepOf}
+use Rattle.rules.specs.Sheets.{readSheet, handedBack}
+use Rattle.rules.specs.declared.Board.{Board}
+use Rattle.rules.specs.declared.Report.{Report}
+use Rattle.rules.specs.declared.Answer.{Answer}
+use Rattle.rules.specs.declared.Settings.{Settings}
+use Rattle.rules.specs.declared.SettingsCheck.{SettingsCheck}
+use Rattle.saltdelta.specs.declared.SheetAnswer.{SheetAnswer}
+
+-- ---- a step
+
+-- the record after a step; a refused one is as it was lent
+unfoldable pub recordAfter : Board → Settings → Slice → Board
+recordAfter b s x = stepOf ourEquipment b s x .board
+
+-- "A refused call yields its number": 0 where the step is not refused
+unfoldable pub stepNumber : Board → Settings → Slice → ℕ
+stepNumber b s x = answerNumber (stepOf ourEquipment b s x .answer)
+
+-- a report is stored; "and no report. All refusals change nothing."
+abbrev pub reportOr : Report → Answer → Report
+reportOr before (Answer.Reported report) = report
+reportOr before (Answer.Refused cause) = before
+
+unfoldable pub reportAfter : Report → Board → Settings → Slice → Report
+reportAfter before b s x = reportOr before (stepOf ourEquipment b s x .answer)
+
+-- ---- a sheet
+
+-- the sheet line of a refusal, from 1; 0 where the sheet is accepted
+abbrev pub lineOf : SettingsCheck → ℕ
+lineOf SettingsCheck.Accepted = 0
+lineOf (SettingsCheck.Refused cause line) = line
+
+-- number and line, and the part handed back as its place and length in the caller's own bytes
+unfoldable pub sheetAnswer : List ℕ → SheetAnswer
+sheetAnswer s =
+    record {
+      number = settingsNumber (readSheet s .check);
+      line = lineOf (readSheet s .check);
+      start = readSheet s .start;
+      length = L.length (handedBack s);
+    }
+
+-- accepted settings are stored; "All refusals change nothing."
+abbrev pub settingsOr : Settings → SettingsCheck → Settings → Settings
+settingsOr before SettingsCheck.Accepted read = read
+settingsOr before (SettingsCheck.Refused cause line) read = before
+
+unfoldable pub settingsAfter : Settings → List ℕ → Settings
+settingsAfter before s = settingsOr before (readSheet s .check) (readSheet s .settings)

@@ -1,0 +1,156 @@
+// The library for C and Rust: document 01's operations at a C boundary. include/saltdelta.h says what each number means and what a
+// caller owes. A refused call answers with document 01's number of its cause and leaves all lent memory as it was.
+ghost use mathlib.Core.Path.{_≡_};
+ghost use Rattle.rules.specs.Refusals.{refusalNumber, savedNumber};
+ghost use Rattle.rules.specs.Records.{fresh};
+ghost use Rattle.rules.specs.Images.{saveCheck, savedInto};
+ghost use Rattle.saltdelta.specs.Answers.{sheetAnswer, settingsAfter, recordAfter, reportAfter, stepNumber};
+use lines::refusal_number;
+use rules::Answer;
+use rules::Board;
+use rules::Refusal;
+use rules::Report;
+use rules::Saved;
+use rules::Settings;
+use rules::SettingsCheck;
+
+// What reading a sheet answers: 0 and 0, or the refusal's number and its sheet line from 1; and where in the caller's own bytes the part
+// handed back begins, and its length.
+#[repr(C)]
+pub struct SheetAnswer {
+    pub number: u32,
+    pub line: u32,
+    pub start: usize,
+    pub length: usize,
+}
+
+// A fresh board record.
+#[no_mangle]
+pub extern "C" fn saltdelta_fresh() -> Board
+    ensures { λ b. ⌜ b ≡ fresh ⌝ }
+{
+    service::fresh()
+}
+
+// Reads the sheet at the front of lent bytes into lent settings; a refused sheet leaves them as they were.
+#[no_mangle]
+pub extern "C" fn saltdelta_read_sheet(settings: &mut Settings, bytes: &[u8]) -> SheetAnswer
+    ensures { λ r. ⌜ (now (settings .exit) ≡ settingsAfter (now (settings .entry)) (now (bytes .entry))) × (r ≡ sheetAnswer (now (bytes .entry))) ⌝ }
+{
+    let next = read_over(*settings, bytes);
+    *settings = next.settings;
+    next.answer
+}
+
+// A step of the lent record, and its report; a refused one leaves both as they were.
+#[no_mangle]
+pub extern "C" fn saltdelta_step(
+    board: &mut Board,
+    settings: &Settings,
+    sample: &[u32],
+    report: &mut Report,
+) -> u32
+    ensures { λ r. ⌜ (now (board .exit) ≡ recordAfter (now (board .entry)) (now (settings .entry)) (now (sample .entry)))
+        × (now (report .exit) ≡ reportAfter (now (report .entry)) (now (board .entry)) (now (settings .entry)) (now (sample .entry)))
+        × (r ≡ stepNumber (now (board .entry)) (now (settings .entry)) (now (sample .entry))) ⌝ }
+{
+    let next = step_over(*board, *settings, sample, *report);
+    *board = next.board;
+    *report = next.report;
+    next.number
+}
+
+// The lent record's image at the front of a lent buffer; a buffer under 45 bytes keeps every byte.
+#[no_mangle]
+pub extern "C" fn saltdelta_save(board: &Board, buffer: &mut [u8]) -> u32
+    ensures { λ r. ⌜ (r ≡ savedNumber (saveCheck (now (buffer .entry)))) × (now (buffer .exit) ≡ savedInto (now (board .entry)) (now (buffer .entry))) ⌝ }
+{
+    save_number(*board, buffer)
+}
+
+// ---- the calls by value
+
+// The answer of a sheet, with the settings beside it.
+struct SheetCall {
+    settings: Settings,
+    answer: SheetAnswer,
+}
+
+// The number of a step, with the record and the report beside it.
+struct StepCall {
+    board: Board,
+    report: Report,
+    number: u32,
+}
+
+// The number of a cause.
+fn number_of(cause: Refusal) -> u32
+    ensures { λ r. ⌜ r ≡ refusalNumber cause ⌝ }
+{
+    refusal_number(cause) as u32
+}
+
+// The sheet at the front of lent bytes, over the settings that stood there before.
+fn read_over(before: Settings, bytes: &[u8]) -> SheetCall
+    ensures { λ r. ⌜ (r .settings ≡ settingsAfter before (now (bytes .entry))) × (r .answer ≡ sheetAnswer (now (bytes .entry))) ⌝ }
+{
+    let outcome = sheet::read(bytes);
+    let check = outcome.check;
+    let start = outcome.start;
+    let read = outcome.settings;
+    let part = sheet::part_from(bytes, check, start);
+    let length = part.len();
+    match check {
+        SettingsCheck::Accepted => SheetCall {
+            settings: read,
+            answer: SheetAnswer {
+                number: 0,
+                line: 0,
+                start,
+                length,
+            },
+        },
+        SettingsCheck::Refused(cause, line) => SheetCall {
+            settings: before,
+            answer: SheetAnswer {
+                number: number_of(cause),
+                line: line as u32,
+                start,
+                length,
+            },
+        },
+    }
+}
+
+// A step by value, over the report that stood there before.
+fn step_over(b: Board, s: Settings, sample: &[u32], before: Report) -> StepCall
+    ensures { λ r. ⌜ (r .board ≡ recordAfter b s (now (sample .entry)))
+        × (r .report ≡ reportAfter before b s (now (sample .entry)))
+        × (r .number ≡ stepNumber b s (now (sample .entry))) ⌝ }
+{
+    let next = service::step::step(b, s, sample);
+    let board = next.board;
+    let answer = next.answer;
+    match answer {
+        Answer::Reported(report) => StepCall {
+            board,
+            report,
+            number: 0,
+        },
+        Answer::Refused(cause) => StepCall {
+            board,
+            report: before,
+            number: number_of(cause),
+        },
+    }
+}
+
+// A saving by value.
+fn save_number(b: Board, out: &mut [u8]) -> u32
+    ensures { λ r. ⌜ (r ≡ savedNumber (saveCheck (now (out .entry)))) × (now (out .exit) ≡ savedInto b (now (out .entry))) ⌝ }
+{
+    match image::save(b, out) {
+        Saved::Written => 0,
+        Saved::Refused(cause) => number_of(cause),
+    }
+}

@@ -1,0 +1,164 @@
+/* saltdelta.h: the grid-interface board as a library for C on x86-64.
+ *
+ *     rt staticlib saltdelta              makes target/staticlib/libsaltdelta.a
+ *     cc program.c -Iinclude target/staticlib/libsaltdelta.a
+ *
+ * Four functions: a fresh board record, reading a sheet of settings, one step of 10 ms, saving a record's image. The library keeps
+ * nothing between calls and allocates nothing; it needs memcpy and some 10 kB of stack. Any number may stand in what is lent, for there
+ * is an answer to each; the contracts in crates/saltdelta/src/lib.rt say which, and that is proved.
+ *
+ * UNITS. Voltage in ten-thousandths of nominal, frequency in millihertz, power in ten-thousandths of rating, time in steps of 10 ms.
+ *
+ * NUMBERS ANSWERED. 0 when nothing is refused, else the first cause found:
+ *
+ *     1  sheet line missing, unended or not of its form
+ *     2  setting outside its allowed range
+ *     3  voltages along a curve that do not rise strictly
+ *     4  code above 4095
+ *     5  frequency not 40000 to 80000
+ *     6  permission not 0 or 1
+ *     7  available power or operator's limit above 10000
+ *     8  sample not of seven numbers
+ *     9  image buffer under 45 bytes
+ *
+ * A sheet's lines are checked in order, each for 1, 2, 3; a step for 2 and 3 in sheet order, then for 8, 4, 5, 6, 7. A refused call
+ * leaves all lent memory as it was (of a struct: its fields; bytes of padding may change).
+ *
+ * WHAT THE CALLER OWES, as for references in Rust; nothing else is asked, and nothing tests it:
+ *
+ *   - every pointer points to memory of the size that its type and its count say, aligned for its type; none is NULL, not with a
+ *     count of 0 either, and no memory is larger than PTRDIFF_MAX bytes;
+ *   - the memory is initialised, also where the call writes: settings of saltdelta_read_sheet, the report of saltdelta_step;
+ *   - while the call runs, nobody else writes any of it or reads what the call writes (the pointers that are not to const), and what
+ *     the call writes overlaps nothing else that is lent to the same call;
+ *   - the structs are those below, and the compiler lays them out as the x86-64 System V ABI says.
+ */
+#ifndef SALTDELTA_H
+#define SALTDELTA_H
+
+#include <stddef.h>
+#include <stdint.h>
+
+#ifdef __cplusplus
+extern "C" {
+#endif
+
+/* The causes for which a call is refused. */
+enum {
+    SALTDELTA_ACCEPTED = 0,
+    SALTDELTA_FORM = 1,
+    SALTDELTA_RANGE = 2,
+    SALTDELTA_RISE = 3,
+    SALTDELTA_CODE = 4,
+    SALTDELTA_FREQUENCY = 5,
+    SALTDELTA_PERMISSION = 6,
+    SALTDELTA_POWER = 7,
+    SALTDELTA_SAMPLE = 8,
+    SALTDELTA_BUFFER = 9
+};
+
+/* The status of a board. Any other number in a lent record is read as tripped. */
+enum {
+    SALTDELTA_TRIPPED = 0,
+    SALTDELTA_ENTERING = 1,   /* in service, the ramp not yet full */
+    SALTDELTA_CONTINUOUS = 2, /* in service, the ramp full */
+    SALTDELTA_MANDATORY = 3,  /* mandatory operation */
+    SALTDELTA_MOMENTARY = 4,  /* momentary cessation */
+    SALTDELTA_CEASE = 5       /* cease to energize */
+};
+
+/* Places in saltdelta_settings.trip and in saltdelta_board.counters; of the counters the last is the ninth, toward return to service. */
+enum {
+    SALTDELTA_UV1 = 0,
+    SALTDELTA_UV2 = 1,
+    SALTDELTA_OV1 = 2,
+    SALTDELTA_OV2 = 3,
+    SALTDELTA_UF1 = 4,
+    SALTDELTA_UF2 = 5,
+    SALTDELTA_OF1 = 6,
+    SALTDELTA_OF2 = 7,
+    SALTDELTA_READY = 8
+};
+
+/* The image of a record, in bytes. */
+#define SALTDELTA_IMAGE 45
+
+/* A trip line of the sheet: a voltage or frequency limit, and its clearing time. */
+typedef struct {
+    uint32_t level;
+    uint32_t clearing;
+} saltdelta_limit;
+
+/* An enter-service range of voltage or frequency, both ends included. */
+typedef struct {
+    uint32_t low;
+    uint32_t high;
+} saltdelta_span;
+
+/* A point of the volt-var or the volt-watt curve; vars may be negative. */
+typedef struct {
+    uint32_t volts;
+    int32_t power;
+} saltdelta_point;
+
+/* The settings of a sheet's thirteen lines. */
+typedef struct {
+    saltdelta_limit trip[8]; /* SALTDELTA_UV1 .. SALTDELTA_OF2 */
+    saltdelta_span volts;    /* enter service: voltage */
+    saltdelta_span hertz;    /* enter service: frequency */
+    uint32_t wait;           /* return wait; 0 counts as 1 */
+    uint32_t ramp;           /* ramp length */
+    saltdelta_point var[4];
+    saltdelta_point watt[2];
+} saltdelta_settings;
+
+/* The board record, which the caller keeps from step to step. It need not be one that a step has written: a count above its top is
+ * read as the top, an unknown status as tripped, a tripped board's ramp count as 0, watts above 10000 as 10000. */
+typedef struct {
+    uint8_t status;
+    uint32_t counters[9]; /* for how many steps each limit has been broken, up to its clearing time; then the ninth */
+    uint32_t ramp;        /* ramp count */
+    uint16_t watts;
+    int16_t vars;
+} saltdelta_board;
+
+/* What a step reports. Bit 8 of bits is uv1, bit 7 uv2, and so on in sheet order to bit 1, of2, and bit 0, ready:
+ * bits >> (8 - SALTDELTA_UV2) & 1 is uv2's. A limit's bit is 1 when its counter is full. */
+typedef struct {
+    uint8_t status;
+    uint16_t bits;
+    uint16_t share; /* ramp count by ramp length, in ten-thousandths */
+    uint16_t watts;
+    int16_t vars;
+} saltdelta_report;
+
+/* What reading a sheet answers. The part handed back is length bytes of the caller's own from start on: the refused line without its
+ * line feed (a missing line is the empty part at the end), or what follows an accepted sheet. */
+typedef struct {
+    uint32_t number; /* 0, or 1, 2 or 3 */
+    uint32_t line;   /* the refused line, from 1; 0 when the sheet is accepted */
+    size_t start;
+    size_t length;
+} saltdelta_sheet;
+
+/* A fresh board: tripped, with all counters, ramp count, watts and vars 0. */
+saltdelta_board saltdelta_fresh(void);
+
+/* Reads the sheet at the front of `length` lent bytes into `settings`. Bytes past its thirteenth line are not the sheet's. */
+saltdelta_sheet saltdelta_read_sheet(saltdelta_settings *settings, const uint8_t *bytes, size_t length);
+
+/* One step of the record, and its report. A sample is seven numbers: the mean-square codes of the three phases, frequency, permission,
+ * available power, operator's limit; `count` is how many are lent, and any other count than 7 is refused with 8. The settings are checked
+ * again for 2 and 3. */
+uint32_t saltdelta_step(saltdelta_board *board, const saltdelta_settings *settings, const uint32_t *sample, size_t count,
+                        saltdelta_report *report);
+
+/* Saves the record's image in the first 45 of `length` lent bytes, high byte first: status (1 byte), the nine counters (4 each), ramp
+ * count (4), watts (2), vars (2, two's complement), each as it is. The bytes after it are untouched. */
+uint32_t saltdelta_save(const saltdelta_board *board, uint8_t *buffer, size_t length);
+
+#ifdef __cplusplus
+}
+#endif
+
+#endif

@@ -1,0 +1,42 @@
+#!/usr/bin/env bash
+# The library: libsaltdelta.a is made, proofs checked, and called from C and from Rust; both are held against the comparison program.
+# A pass is a case: a run of calls that all agree with it (a board's life, or a hundred calls), or a sheet that C reads as document 01 says.
+set -u
+cd "$(dirname "$0")/.." || exit 2
+out=target/library
+mkdir -p "$out"
+stop() { echo "$1"; echo "0 passed, 1 failed"; exit 1; }
+
+rt staticlib saltdelta > "$out/staticlib.log" 2>&1 || { tail -n 5 "$out/staticlib.log"; stop "the library is not made"; }
+rustc -O --edition 2021 comparison/board.rs -o "$out/comparison" || stop "the comparison program does not compile"
+rustc -O --edition 2021 tests/library/check.rs -L target/staticlib -o "$out/check-rust" || stop "tests/library/check.rs does not compile"
+"${CC:-cc}" -std=c99 -O2 -Wall -Wextra -Iinclude tests/library/check.c target/staticlib/libsaltdelta.a -o "$out/check-c" ||
+    stop "tests/library/check.c does not compile"
+
+passed=0
+failed=0
+# add FILE NAME: the file's last line is 'N passed, M failed'
+add() {
+    local counts
+    counts=$(tail -n 1 "$1" | sed -n 's/^\([0-9][0-9]*\) passed, \([0-9][0-9]*\) failed$/\1 \2/p')
+    [ -n "$counts" ] || counts="0 1"
+    sed '$d' "$1"
+    echo "$2: ${counts% *} cases agree, ${counts#* } differ"
+    passed=$((passed + ${counts% *}))
+    failed=$((failed + ${counts#* }))
+}
+
+"$out/check-c" "$out/calls" "$out/answers" > "$out/c-sheets.log" || echo "check-c ends with $?"
+add "$out/c-sheets.log" "C, sheets"
+"$out/comparison" calls < "$out/calls" > "$out/expected"
+# a case is the calls from one `fresh` to the next
+paste -d '\t' "$out/calls" "$out/expected" "$out/answers" | awk -F '\t' '
+    function ends() { if (NR > 1) { if (other) failed++; else passed++ } other = 0 }
+    $1 == "fresh" { ends() }
+    $2 != $3 { other++; if (shown++ < 5) print "line " NR ": " $3 ", not " $2 }
+    END { NR++; ends(); print "calls: " NR - 1 ", " shown + 0 " of them differ"; print passed + 0 " passed, " failed + 0 " failed" }' > "$out/c-calls.log"
+add "$out/c-calls.log" "C, calls"
+"$out/check-rust" > "$out/rust.log" || echo "check-rust ends with $?"
+add "$out/rust.log" "Rust, calls"
+echo "$passed passed, $failed failed"
+[ "$failed" -eq 0 ]

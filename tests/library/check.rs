@@ -1,0 +1,416 @@
+//! The library from Rust: target/staticlib/libsaltdelta.a against the comparison program, the same calls to both.
+//!
+//! Every call's number, and all memory lent to it, refused calls' too, must be the comparison program's. The calls are made from fixed
+//! seeds. The last line is 'N passed, M failed', in cases: some hundred calls each, which all agree or not.
+
+#[allow(dead_code)]
+#[path = "../../comparison/board.rs"]
+mod comparison;
+mod library;
+
+use comparison as other;
+use library::{Board, Limit, Point, Report, Settings, Sheet, Span};
+
+// ---- made numbers
+
+/// xorshift64*
+struct Dice(u64);
+
+impl Dice {
+    fn next(&mut self) -> u64 {
+        self.0 ^= self.0 >> 12;
+        self.0 ^= self.0 << 25;
+        self.0 ^= self.0 >> 27;
+        self.0.wrapping_mul(0x2545_F491_4F6C_DD1D)
+    }
+
+    fn below(&mut self, n: u64) -> u64 {
+        (self.next() >> 11) % n
+    }
+
+    fn one_in(&mut self, n: u64) -> bool {
+        self.below(n) == 0
+    }
+
+    fn within(&mut self, lowest: i64, highest: i64) -> i64 {
+        lowest + self.below((highest - lowest + 1) as u64) as i64
+    }
+
+    /// In a range, often at an end of it.
+    fn inside(&mut self, lowest: i64, highest: i64) -> i64 {
+        match self.below(4) {
+            0 => lowest,
+            1 => highest,
+            _ => self.within(lowest, highest),
+        }
+    }
+
+    /// Near a range, in it or not, or anything of 32 bits.
+    fn near(&mut self, lowest: i64, highest: i64) -> i64 {
+        match self.below(8) {
+            0 => lowest - 1,
+            1 => highest + 1,
+            2 => 0,
+            3 => self.within(0, u32::MAX as i64),
+            _ => self.inside(lowest, highest),
+        }
+    }
+}
+
+/// The allowed values of each line, and its number of pairs.
+const ROWS: [(i64, i64, i64, i64, usize); 13] = [
+    (0, 8800, 2100, 5000, 1),
+    (0, 5000, 200, 2100, 1),
+    (11000, 12000, 100, 1300, 1),
+    (12000, 12000, 16, 16, 1),
+    (50000, 59000, 18000, 100000, 1),
+    (50000, 57000, 16, 100000, 1),
+    (61000, 66000, 18000, 100000, 1),
+    (61800, 66000, 16, 100000, 1),
+    (8800, 9500, 10500, 10600, 1),
+    (59000, 59900, 60100, 61000, 1),
+    (0, 60000, 100, 100000, 1),
+    (7000, 13000, -10000, 10000, 4),
+    (10000, 12000, 0, 10000, 2),
+];
+
+type Pairs = Vec<(i64, i64)>;
+
+/// The numbers of accepted settings, seventeen pairs in sheet order.
+fn good_pairs(dice: &mut Dice) -> Pairs {
+    let mut pairs = Vec::new();
+    for (low, high, second_low, second_high, n) in ROWS {
+        let mut volts: Vec<i64> = Vec::new();
+        while volts.len() < n {
+            let v = dice.inside(low, high);
+            if !volts.contains(&v) {
+                volts.push(v);
+            }
+        }
+        volts.sort();
+        pairs.extend(volts.iter().map(|&v| (v, dice.inside(second_low, second_high))));
+    }
+    if dice.one_in(2) {
+        pairs[10] = (dice.within(0, 3), 100);
+    }
+    pairs
+}
+
+/// Numbers some of which are outside their row, or do not rise.
+fn wild_pairs(dice: &mut Dice) -> Pairs {
+    let mut pairs = good_pairs(dice);
+    for _ in 0..dice.below(3) {
+        let line = dice.below(13) as usize;
+        let (low, high, second_low, second_high, n) = ROWS[line];
+        let at = ROWS[..line].iter().map(|r| r.4).sum::<usize>() + dice.below(n as u64) as usize;
+        match dice.below(3) {
+            0 => pairs[at].0 = dice.near(low, high).max(0),
+            1 => pairs[at].1 = dice.near(second_low, second_high),
+            _ if n > 1 && at > 0 => pairs[at].0 = pairs[at - 1].0,
+            _ => (),
+        }
+    }
+    pairs
+}
+
+fn settings_of(p: &Pairs) -> Settings {
+    let limit = |i: usize| Limit { level: p[i].0 as u32, clearing: p[i].1 as u32 };
+    let span = |i: usize| Span { low: p[i].0 as u32, high: p[i].1 as u32 };
+    let point = |i: usize| Point { volts: p[i].0 as u32, power: p[i].1 as i32 };
+    Settings {
+        trip: std::array::from_fn(limit),
+        volts: span(8),
+        hertz: span(9),
+        wait: p[10].0 as u32,
+        ramp: p[10].1 as u32,
+        var: std::array::from_fn(|i| point(11 + i)),
+        watt: std::array::from_fn(|i| point(15 + i)),
+    }
+}
+
+fn sheet_of(p: &Pairs) -> Vec<u8> {
+    let names = ["uv1", "uv2", "ov1", "ov2", "uf1", "uf2", "of1", "of2"];
+    let mut s = String::new();
+    for (i, name) in names.iter().enumerate() {
+        s += &format!("(trip ({} {} {}))\n", name, p[i].0, p[i].1);
+    }
+    for (i, name) in ["volts", "hertz", "wait"].iter().enumerate() {
+        s += &format!("(enter ({} {} {}))\n", name, p[8 + i].0, p[8 + i].1);
+    }
+    let points = |from: usize, to: usize| {
+        (from..to).map(|i| format!(" ({} {})", p[i].0, p[i].1)).collect::<String>()
+    };
+    s += &format!("(var{})\n(watt{})\n", points(11, 15), points(15, 17));
+    s.into_bytes()
+}
+
+/// A record that a step could have written, or anything.
+fn wild_record(dice: &mut Dice) -> Board {
+    let count = |dice: &mut Dice| match dice.below(4) {
+        0 => dice.within(0, 20) as u32,
+        1 => dice.within(0, 100001) as u32,
+        2 => u32::MAX - dice.below(3) as u32,
+        _ => dice.next() as u32,
+    };
+    Board {
+        status: if dice.one_in(4) { dice.next() as u8 } else { dice.within(0, 6) as u8 },
+        counters: std::array::from_fn(|_| count(dice)),
+        ramp: count(dice),
+        watts: if dice.one_in(2) { dice.within(0, 10001) as u16 } else { dice.next() as u16 },
+        vars: dice.next() as i16,
+    }
+}
+
+fn wild_report(dice: &mut Dice) -> Report {
+    Report {
+        status: dice.next() as u8,
+        bits: dice.next() as u16,
+        share: dice.next() as u16,
+        watts: dice.next() as u16,
+        vars: dice.next() as i16,
+    }
+}
+
+/// Mostly seven numbers that are accepted; else numbers near their ranges, and other lengths.
+fn sample(dice: &mut Dice, wild: bool) -> Vec<u32> {
+    let phase = |dice: &mut Dice| if dice.one_in(3) { dice.inside(0, 4095) } else { dice.within(700, 1500) };
+    let hertz = if dice.one_in(3) { dice.inside(40000, 80000) } else { dice.within(58000, 63000) };
+    let mut s = vec![phase(dice), phase(dice), phase(dice), hertz];
+    s.extend([dice.below(8).min(1) as i64, dice.inside(0, 10000), dice.inside(0, 10000)]);
+    if wild && dice.one_in(2) {
+        let i = dice.below(7) as usize;
+        let (low, high) = [(0, 4095), (0, 4095), (0, 4095), (40000, 80000), (0, 1), (0, 10000), (0, 10000)][i];
+        s[i] = dice.near(low, high).max(0);
+    }
+    if wild && dice.one_in(4) {
+        s.resize(dice.below(12) as usize, 0);
+    }
+    s.into_iter().map(|n| n as u32).collect()
+}
+
+// ---- the same in the comparison program's types
+
+fn other_settings(s: &Settings) -> other::Settings {
+    let trip = |l: Limit| other::Trip { limit: l.level, time: l.clearing };
+    let range = |s: Span| other::Range { low: s.low, high: s.high };
+    let point = |p: Point| other::Point { voltage: p.volts, power: p.power };
+    other::Settings {
+        trips: s.trip.map(trip),
+        volts: range(s.volts),
+        hertz: range(s.hertz),
+        wait: s.wait,
+        ramp: s.ramp,
+        var: s.var.map(point),
+        watt: s.watt.map(point),
+    }
+}
+
+fn other_record(b: &Board) -> other::Board {
+    other::Board { status: b.status, counters: b.counters, ramp: b.ramp, watts: b.watts, vars: b.vars }
+}
+
+fn report_of(r: &other::Report) -> Report {
+    let bits = r.bits.iter().fold(0, |n, &bit| 2 * n + u16::from(bit));
+    Report { status: r.status, bits, share: r.share, watts: r.watts, vars: r.vars }
+}
+
+// ---- the comparisons: each makes one call to both and says whether they agree
+
+#[derive(Default)]
+struct Tally {
+    calls: u64,
+    differ: u64,
+    differ_in_case: u64,
+    passed: u64,
+    failed: u64,
+}
+
+impl Tally {
+    fn call(&mut self, same: bool, what: impl FnOnce() -> String) {
+        self.calls += 1;
+        if same {
+            return;
+        }
+        self.differ += 1;
+        self.differ_in_case += 1;
+        if self.differ <= 10 {
+            println!("differs: {}", what());
+        }
+    }
+
+    /// The calls since the last case are one case.
+    fn case(&mut self) {
+        if self.differ_in_case == 0 {
+            self.passed += 1;
+        } else {
+            self.failed += 1;
+        }
+        self.differ_in_case = 0;
+    }
+}
+
+fn compare_fresh(tally: &mut Tally) -> Board {
+    let b = library::fresh();
+    tally.call(other_record(&b) == other::fresh(), || format!("fresh: {:?}", b));
+    b
+}
+
+fn compare_step(tally: &mut Tally, board: &mut Board, settings: &Settings, sample: &[u32], report: &mut Report) -> u32 {
+    let lent = (*board, *settings, *report);
+    let mut record = other_record(board);
+    let (number, reported) = match other::step(&mut record, &other_settings(settings), sample) {
+        Ok(r) => (0, report_of(&r)),
+        Err(n) => (u32::from(n), *report),
+    };
+    let found = library::step(board, settings, sample, report);
+    let same = found == number && other_record(board) == record && *report == reported && *settings == lent.1;
+    tally.call(same, || format!("step of {:?} with {:?}: {} {:?} {:?}, not {} {:?} {:?}", lent, sample, found, board, report, number, record, reported));
+    found
+}
+
+fn compare_save(tally: &mut Tally, board: &Board, buffer: &mut [u8]) -> u32 {
+    let lent = *board;
+    let mut bytes = buffer.to_vec();
+    let number = other::save(&other_record(board), &mut bytes).map_or_else(u32::from, |()| 0);
+    let found = library::save(board, buffer);
+    let same = found == number && buffer == bytes && *board == lent;
+    tally.call(same, || format!("save of {:?}: {} {:?}, not {} {:?}", lent, found, buffer, number, bytes));
+    found
+}
+
+fn compare_sheet(tally: &mut Tally, settings: &mut Settings, bytes: &[u8]) -> u32 {
+    let (expected, after) = match other::read_sheet(bytes) {
+        other::SheetResult::Accepted { settings, rest_begins } => {
+            let (start, length) = (rest_begins, bytes.len() - rest_begins);
+            (Sheet { number: 0, line: 0, start, length }, settings)
+        }
+        other::SheetResult::Refused { number, line_number, line } => {
+            let (start, length) = (line.as_ptr() as usize - bytes.as_ptr() as usize, line.len());
+            (Sheet { number: number.into(), line: line_number as u32, start, length }, other_settings(settings))
+        }
+    };
+    let found = library::read_sheet(settings, bytes);
+    let same = found == expected && other_settings(settings) == after;
+    tally.call(same, || format!("sheet {:?}: {:?}, not {:?}", String::from_utf8_lossy(bytes), found, expected));
+    found.number
+}
+
+// ---- the groups
+
+/// Boards from fresh: mostly steady samples, often such that let it return, some refused; `seen` counts the statuses reported.
+fn boards(tally: &mut Tally, dice: &mut Dice, seen: &mut [u64; 10]) {
+    for _ in 0..1000 {
+        let mut board = compare_fresh(tally);
+        let good = settings_of(&good_pairs(dice));
+        let mut report = wild_report(dice);
+        let steady = if dice.one_in(4) { sample(dice, false) } else { vec![1000, 1010, 990, 60000, 1, 10000, 9000] };
+        let often = dice.within(2, 40) as u64;
+        for _ in 0..150 {
+            let s = if dice.one_in(often) { sample(dice, true) } else { steady.clone() };
+            let settings = if dice.one_in(20) { settings_of(&wild_pairs(dice)) } else { good };
+            if compare_step(tally, &mut board, &settings, &s, &mut report) == 0 {
+                seen[report.status as usize] += 1;
+            }
+        }
+        compare_save(tally, &board, &mut [0xAA; 50]);
+        tally.case();
+    }
+}
+
+/// Records, settings and slices of any kind; `seen` counts the numbers answered.
+fn steps(tally: &mut Tally, dice: &mut Dice, seen: &mut [u64; 10]) {
+    for i in 1..=100_000 {
+        let pairs = if dice.one_in(4) { wild_pairs(dice) } else { good_pairs(dice) };
+        let settings = settings_of(&pairs);
+        let s = sample(dice, true);
+        let number = compare_step(tally, &mut wild_record(dice), &settings, &s, &mut wild_report(dice));
+        seen[number as usize] += 1;
+        if i % 100 == 0 {
+            tally.case();
+        }
+    }
+    for n in 0..=64 {
+        let s = vec![1000; n];
+        seen[compare_step(tally, &mut wild_record(dice), &settings_of(&good_pairs(dice)), &s, &mut wild_report(dice)) as usize] += 1;
+    }
+    tally.case();
+}
+
+/// Records of any kind into buffers of 0 to 50 bytes.
+fn saves(tally: &mut Tally, dice: &mut Dice, seen: &mut [u64; 10]) {
+    for length in 0..=50 {
+        for _ in 0..200 {
+            let mut buffer: Vec<u8> = (0..length).map(|_| dice.next() as u8).collect();
+            seen[compare_save(tally, &wild_record(dice), &mut buffer) as usize] += 1;
+        }
+        tally.case();
+    }
+}
+
+/// A sheet with something changed: bytes, lines, its end.
+fn damage(dice: &mut Dice, sheet: &mut Vec<u8>) {
+    let at = dice.below(sheet.len() as u64) as usize;
+    match dice.below(8) {
+        0 => sheet[at] = dice.next() as u8,
+        1 => sheet[at] = b"0123456789-() \nuvofwatrigeh"[dice.below(27) as usize],
+        2 => sheet.insert(at, b"0123456789-() \n"[dice.below(15) as usize]),
+        3 => drop(sheet.remove(at)),
+        4 => sheet.truncate(at),
+        5 => drop(sheet.pop()),
+        6 => {
+            let digits: Vec<usize> = (0..sheet.len()).filter(|&i| sheet[i].is_ascii_digit()).collect();
+            sheet[digits[dice.below(digits.len() as u64) as usize]] = b'0' + dice.below(10) as u8;
+        }
+        _ => {
+            let mut lines: Vec<&[u8]> = sheet.split_inclusive(|&b| b == b'\n').collect();
+            let i = dice.below(lines.len() as u64) as usize;
+            let j = dice.below(lines.len() as u64) as usize;
+            lines.swap(i, j);
+            *sheet = lines.concat();
+        }
+    }
+}
+
+/// Sheets good, out of range and damaged, with bytes after them, read over settings of any kind.
+fn sheets(tally: &mut Tally, dice: &mut Dice, seen: &mut [u64; 10]) {
+    for i in 1..=20_000 {
+        let pairs = if dice.one_in(2) { wild_pairs(dice) } else { good_pairs(dice) };
+        let mut sheet = sheet_of(&pairs);
+        if dice.one_in(2) {
+            damage(dice, &mut sheet);
+        }
+        if dice.one_in(2) {
+            sheet.extend_from_slice(&b"(at (1000 1000 1000) 60000 1 10000 10000)\n"[..dice.below(43) as usize]);
+        }
+        seen[compare_sheet(tally, &mut settings_of(&wild_pairs(dice)), &sheet) as usize] += 1;
+        if i % 100 == 0 {
+            tally.case();
+        }
+    }
+    let sheet = other::DEFAULT_SHEET.as_bytes();
+    for n in 0..=sheet.len() {
+        seen[compare_sheet(tally, &mut settings_of(&wild_pairs(dice)), &sheet[..n]) as usize] += 1;
+    }
+    tally.case();
+}
+
+fn main() {
+    let mut tally = Tally::default();
+    let mut seen = [0; 10];
+    boards(&mut tally, &mut Dice(1_547_2018), &mut seen);
+    println!("boards: 1000 from fresh, 150 steps and a saving each; statuses reported {:?}", &seen[..6]);
+    let mut seen = [0; 10];
+    steps(&mut tally, &mut Dice(20_260_101), &mut seen);
+    println!("steps: numbers answered {:?}", &seen[..9]);
+    let mut seen = [0; 10];
+    saves(&mut tally, &mut Dice(45), &mut seen);
+    println!("saves: {} written, {} refused with 9", seen[0], seen[9]);
+    let mut seen = [0; 10];
+    sheets(&mut tally, &mut Dice(13), &mut seen);
+    println!("sheets: numbers answered {:?}", &seen[..4]);
+    println!("calls: {}, {} of them differ", tally.calls, tally.differ);
+    println!("{} passed, {} failed", tally.passed, tally.failed);
+    if tally.failed > 0 {
+        std::process::exit(1);
+    }
+}

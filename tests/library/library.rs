@@ -1,0 +1,88 @@
+//! include/saltdelta.h for Rust: the structs and functions of the library, and a safe function for each. A reference and a slice
+//! bring what a caller owes, so the safe functions test nothing.
+
+#[repr(C)]
+#[derive(Clone, Copy, Debug, PartialEq)]
+pub struct Limit {
+    pub level: u32,
+    pub clearing: u32,
+}
+
+#[repr(C)]
+#[derive(Clone, Copy, Debug, PartialEq)]
+pub struct Span {
+    pub low: u32,
+    pub high: u32,
+}
+
+#[repr(C)]
+#[derive(Clone, Copy, Debug, PartialEq)]
+pub struct Point {
+    pub volts: u32,
+    pub power: i32,
+}
+
+#[repr(C)]
+#[derive(Clone, Copy, Debug, PartialEq)]
+pub struct Settings {
+    pub trip: [Limit; 8],
+    pub volts: Span,
+    pub hertz: Span,
+    pub wait: u32,
+    pub ramp: u32,
+    pub var: [Point; 4],
+    pub watt: [Point; 2],
+}
+
+#[repr(C)]
+#[derive(Clone, Copy, Debug, PartialEq)]
+pub struct Board {
+    pub status: u8,
+    pub counters: [u32; 9],
+    pub ramp: u32,
+    pub watts: u16,
+    pub vars: i16,
+}
+
+#[repr(C)]
+#[derive(Clone, Copy, Debug, PartialEq)]
+pub struct Report {
+    pub status: u8,
+    pub bits: u16,
+    pub share: u16,
+    pub watts: u16,
+    pub vars: i16,
+}
+
+#[repr(C)]
+#[derive(Clone, Copy, Debug, PartialEq)]
+pub struct Sheet {
+    pub number: u32,
+    pub line: u32,
+    pub start: usize,
+    pub length: usize,
+}
+
+#[link(name = "saltdelta", kind = "static")]
+extern "C" {
+    fn saltdelta_fresh() -> Board;
+    fn saltdelta_read_sheet(settings: &mut Settings, bytes: *const u8, length: usize) -> Sheet;
+    fn saltdelta_step(board: &mut Board, settings: &Settings, sample: *const u32, count: usize, report: &mut Report) -> u32;
+    fn saltdelta_save(board: &Board, buffer: *mut u8, length: usize) -> u32;
+}
+
+pub fn fresh() -> Board {
+    unsafe { saltdelta_fresh() }
+}
+
+pub fn read_sheet(settings: &mut Settings, bytes: &[u8]) -> Sheet {
+    unsafe { saltdelta_read_sheet(settings, bytes.as_ptr(), bytes.len()) }
+}
+
+pub fn step(board: &mut Board, settings: &Settings, sample: &[u32], report: &mut Report) -> u32 {
+    unsafe { saltdelta_step(board, settings, sample.as_ptr(), sample.len(), report) }
+}
+
+pub fn save(board: &Board, buffer: &mut [u8]) -> u32 {
+    unsafe { saltdelta_save(board, buffer.as_mut_ptr(), buffer.len()) }
+}
