@@ -94,9 +94,12 @@ pub fn read(table: &[u16; 4096], x: &[u32]) -> Reading
     requires { ⌜ (IsTable (now table)) × (sampleAccepted (now x) ≡ true) ⌝ }
     ensures { λ r. ⌜ r ≡ readingOf (now (x .entry)) ⌝ }
 {
-    let a = volts(table, x[0]) as u32;
-    let b = volts(table, x[1]) as u32;
-    let c = volts(table, x[2]) as u32;
+    let first = x[0];
+    let second = x[1];
+    let third = x[2];
+    let a = volts(table, first) as u32;
+    let b = volts(table, second) as u32;
+    let c = volts(table, third) as u32;
     let low = least(a, least(b, c));
     let high = most(a, most(b, c));
     let sum = a + b + c;

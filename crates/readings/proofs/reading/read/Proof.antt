@@ -7,26 +7,26 @@ use borrow.Author.Needs.{needs}
 use Rattle.readings.proofs.reading.read.Statement.{statement}
 use Rattle.readings.proofs.reading.read.Tie as tie
 
-shared-slice-read-volts : tie.Need-shared-slice-read-volts
-shared-slice-read-volts c = let s = c .before .before in let seven = sample-right (now (s .args .x)) (s .pre .1) .seven in search needs
+shared-slice-read-first : tie.Need-shared-slice-read-first
+shared-slice-read-first c = let s = c .before .before in let seven = sample-right (now (s .args .x)) (s .pre .1) .seven in search needs
+
+shared-slice-read-second : tie.Need-shared-slice-read-second
+shared-slice-read-second c = let s = c .before .before .before in let seven = sample-right (now (s .args .x)) (s .pre .1) .seven in search needs
+
+shared-slice-read-third : tie.Need-shared-slice-read-third
+shared-slice-read-third c = let s = c .before .before .before .before in let seven = sample-right (now (s .args .x)) (s .pre .1) .seven in search needs
 
 volts-requires : tie.Need-volts-requires
-volts-requires c κs = let s = c .before .before in (s .pre .0, omega (arith, sample-right (now (s .args .x)) (s .pre .1)))
+volts-requires c κs = let s = c .before .before .before .before in (s .pre .0, omega (arith, sample-right (now (s .args .x)) (s .pre .1)))
 
 cast-a : tie.Need-cast-a
 cast-a c = search needs
 
-shared-slice-read-volts-2 : tie.Need-shared-slice-read-volts-2
-shared-slice-read-volts-2 c = let s = c .before .before .before .before in let seven = sample-right (now (s .args .x)) (s .pre .1) .seven in search needs
-
 volts-requires-2 : tie.Need-volts-requires-2
-volts-requires-2 c κs = let s = c .before .before .before .before in (s .pre .0, omega (arith, sample-right (now (s .args .x)) (s .pre .1)))
+volts-requires-2 c κs = let s = c .before .before .before .before .before in (s .pre .0, omega (arith, sample-right (now (s .args .x)) (s .pre .1)))
 
 cast-b : tie.Need-cast-b
 cast-b c = search needs
-
-shared-slice-read-volts-3 : tie.Need-shared-slice-read-volts-3
-shared-slice-read-volts-3 c = let s = c .before .before .before .before .before .before in let seven = sample-right (now (s .args .x)) (s .pre .1) .seven in search needs
 
 volts-requires-3 : tie.Need-volts-requires-3
 volts-requires-3 c κs = let s = c .before .before .before .before .before .before in (s .pre .0, omega (arith, sample-right (now (s .args .x)) (s .pre .1)))
@@ -47,10 +47,10 @@ most-requires-2 : tie.Need-most-requires-2
 most-requires-2 c κs = search needs
 
 add-sum : tie.Need-add-sum
-add-sum c = search needs
+add-sum c = let s = c .before .before .before .before .before .before .before .before .before .before .before in omega (arith, sample-right (now (s .args .x)) (s .pre .1))
 
 add-sum-2 : tie.Need-add-sum-2
-add-sum-2 c = search needs
+add-sum-2 c = let s = c .before .before .before .before .before .before .before .before .before .before .before in omega (arith, sample-right (now (s .args .x)) (s .pre .1))
 
 shared-slice-read-frequency : tie.Need-shared-slice-read-frequency
 shared-slice-read-frequency c = let s = c .before .before .before .before .before .before .before .before .before .before .before .before in let seven = sample-right (now (s .args .x)) (s .pre .1) .seven in search needs
@@ -66,19 +66,19 @@ shared-slice-read-limit c = let s = c .before .before .before .before .before .b
 
 returns : tie.Need-returns
 returns c =
-    rw (c .before .before .before .before .before .before .least2 .ensures, c .before .before .before .before .before .before .before .least .ensures, c .before .before .before .before .most2 .ensures, c .before .before .before .before .before .most .ensures, c .before .before .before .before .before .before .before .before .before .before .before .before .volts .ensures, c .before .before .before .before .before .before .before .before .before .before .volts2 .ensures, c .before .before .before .before .before .before .before .before .volts3 .ensures)
+    rw (c .before .before .before .before .before .before .least2 .ensures, c .before .before .before .before .before .before .before .least .ensures, c .before .before .before .before .most2 .ensures, c .before .before .before .before .before .most .ensures, c .before .before .before .before .before .before .before .before .before .before .volts .ensures, c .before .before .before .before .before .before .before .before .before .volts2 .ensures, c .before .before .before .before .before .before .before .before .volts3 .ensures)
 
 pub read-spec : {M : Type 1} → statement M
 read-spec =
     tie.close
     (tie.spec
-    shared-slice-read-volts
+    shared-slice-read-first
+    shared-slice-read-second
+    shared-slice-read-third
     volts-requires
     cast-a
-    shared-slice-read-volts-2
     volts-requires-2
     cast-b
-    shared-slice-read-volts-3
     volts-requires-3
     cast-c
     least-requires
