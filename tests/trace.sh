@@ -28,7 +28,7 @@ check() {
 }
 
 expected=0
-to_come=0
+not_built=0
 while IFS= read -r line; do
     expected=$((expected + 1))
     line=${line//\\|/ }
@@ -38,12 +38,12 @@ while IFS= read -r line; do
         fail "$row" "not row $expected of six cells"
         continue
     fi
-    case $line in *'(to come)'*) to_come=$((to_come + 1)) ;; esac
+    case $line in *'not built'*) not_built=$((not_built + 1)) ;; esac
     while IFS= read -r name; do
         [ -n "$name" ] && check "$row" "$name"
     done <<< "$(grep -o '`[^`]*`' <<< "$definition$contract$edit$test" | tr -d '`')"
 done < <(grep -E '^\| [0-9]+ \|' docs/TRACE.md)
 if [ "$expected" -eq 0 ]; then fail 0 "no rows"; fi
-echo "$expected rows, $to_come of them with something to come"
+echo "$expected rows, $not_built of them not built"
 echo "$passed passed, $failed failed"
 [ "$failed" -eq 0 ]
