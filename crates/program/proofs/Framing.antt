@@ -3,8 +3,9 @@
 use mathlib.Core.Path.{_≡_, refl, sym, ap, ap₂, _∙_}
 use mathlib.Core.Bool.{Bool, true, false, cond, _||_, false≢true}
 use mathlib.Core.List.{List, [], _∷_, _++_, append-assoc, append-nil}
-use Prim.Native.Nat.{ℕ}
+use Prim.Native.Nat.{ℕ, zero, suc}
 use lib.Dec.{eqb}
+use lib.ListN.{take}
 use lib.Seq.{append-snoc}
 use Rattle.rules.specs.Text.{feed, firstLine, hasFeed, afterLine}
 use Rattle.rules.specs.Transcripts.{Line, ended, unended, lastLine, linesAfter, linesIn}
@@ -85,5 +86,16 @@ after-past-plain [] t e = refl
 after-past-plain (b ∷ s) t e = by (eqb b feed) e (after-past-plain s t)
   where
     by : (k : Bool) → (k || hasFeed s) ≡ false → (hasFeed s ≡ false → afterLine (s ++ t) ≡ afterLine t) → cond k (s ++ t) (afterLine (s ++ t)) ≡ afterLine t
+    by true p rec = absurd (false≢true (sym p))
+    by false p rec = rec p
+
+-- a cut of it has none either
+pub plain-cut : (n : ℕ) (s : List ℕ) → hasFeed s ≡ false → hasFeed (take n s) ≡ false
+unfolding hasFeed
+plain-cut zero s e = refl
+plain-cut (suc n) [] e = refl
+plain-cut (suc n) (b ∷ s) e = by (eqb b feed) e (plain-cut n s)
+  where
+    by : (k : Bool) → (k || hasFeed s) ≡ false → (hasFeed s ≡ false → hasFeed (take n s) ≡ false) → (k || hasFeed (take n s)) ≡ false
     by true p rec = absurd (false≢true (sym p))
     by false p rec = rec p

@@ -5,6 +5,7 @@ use mathlib.Core.Bool.{Bool, true, false, cond, _||_, false≢true}
 use mathlib.Core.List.{List, [], _∷_, _++_, append-assoc, append-nil}
 use Prim.Native.Nat.{ℕ, zero, suc, _+_, _-_, _≤_, _<_}
 use native.Mathlib.Omega.{arith}
+use borrow.Author.Tests.{ltb-false}
 use lib.Dec.{ltb}
 use lib.ListN.{length, drop, length-drop}
 use lib.Seq.{drop-length, drop-drop}
@@ -18,6 +19,7 @@ use Rattle.program.specs.Responses.{longest, stops, andSaid, closed, dro
 use Rattle.program.specs.declared.State.{State}
 use Rattle.program.proofs.Framing.{lines-fed, lines-unfed, feed-front, line-front, after-front}
 use Rattle.program.proofs.Resuming.{resume-fed, resume-unfed, done-resume, said-taken, droppedFrom, dropped-resume}
+use Rattle.program.proofs.Ending.{doneAfter, done-fed, done-done, done-dropped}
 use Rattle.program.proofs.Fitting.{fit-less, fit-stopped, fit-said}
 
 neither : (a b : Bool) → (a || b) ≡ false → (a ≡ false) × (b ≡ false)
@@ -49,9 +51,20 @@ pub record Keeps (e : Equipment) (h : Said) (s more : List ℕ) (k : Said) : Typ
   pub low : h .state .taken ≤ k .state .taken
   pub high : k .state .taken ≤ h .state .taken + length s
   pub says : h .text ++ resume e (h .state) (s ++ more) ≡ k .text ++ resume e (k .state) (drop (k .state .taken - h .state .taken) s ++ more)
+  pub finish : doneAfter e (h .state) (linesIn (s ++ more)) ≡ true → doneAfter e (k .state) (linesIn (drop (k .state .taken - h .state .taken) s ++ more)) ≡ true
 
 stays : (e : Equipment) (h : Said) (s more : List ℕ) → Keeps e h s more h
-stays e h s more = record { low = omega arith; high = omega arith; says = rw (drop-none (h .state .taken) s) }
+stays e h s more =
+    record {
+      low = omega arith;
+      high = omega arith;
+      says = rw (drop-none (h .state .taken) s);
+      finish = λ p. rw (drop-none (h .state .taken) s) p;
+    }
+
+no-feed : hasFeed [] ≡ false
+unfolding hasFeed
+no-feed = refl
 
 -- ---- the bytes after the last line feed
 
@@ -62,6 +75,7 @@ module _ (e : Equipment) (h : Said) (s more : List ℕ) (plain : hasFeed s ≡ f
         low = omega arith;
         high = omega arith;
         says = rw (none, append-nil s, resume-unfed e (h .state) s plain, done-resume e (stopped (h .state) (length s)) _ refl) (sym (append-nil _));
+        finish = λ p. done-done e (stopped (h .state) (length s)) (linesIn (drop (h .state .taken + length s - h .state .taken) s ++ more)) refl;
       }
 
   keeps-dropped : (h .state .long || ltb longest (length s)) ≡ true → Keeps e h s more (dropped h s)
@@ -71,6 +85,7 @@ module _ (e : Equipment) (h : Said) (s more : List ℕ) (plain : hasFeed s ≡ f
         low = omega arith;
         high = omega arith;
         says = rw (all, drop-length s) (ap (λ (t : List ℕ). h .text ++ t) (dropped-resume e (h .state) s (h .state .long) refl long more plain));
+        finish = λ p. rw (all, drop-length s) (sym (done-dropped e (h .state) s more long plain) ∙ p);
       }
 
   keeps-tail : (ends : Bool) → (ends ≡ true → more ≡ []) → Keeps e h s more (atTail ends h s)
@@ -107,13 +122,23 @@ module _ (e : Equipment) (h : Said) (s more : List ℕ) (fed : hasFeed s ≡ tru
       rw (resume-fed e (h .state) (s ++ more) (feed-front s more fed), line-front s more fed, after-front s more fed)
       (sym (append-assoc (h .text) (said e (h .state) line .text) (resume e (next .state) (afterLine s ++ more))))
 
+  -- what is left of the rest of s is what is left of s
+  left-is : (k : Said) → next .state .taken ≤ k .state .taken → drop (k .state .taken - next .state .taken) (afterLine s) ≡ drop (k .state .taken - h .state .taken) s
+  left-is k low =
+      let n : length line + 1 + (k .state .taken - next .state .taken) ≡ k .state .taken - h .state .taken = omega (arith, next-taken) in
+      ap (drop (k .state .taken - next .state .taken)) after-is ∙ drop-drop _ (length line + 1) s ∙ ap (λ (m : ℕ). drop m s) n
+
+  one-finish : doneAfter e (h .state) (linesIn (s ++ more)) ≡ true → doneAfter e (next .state) (linesIn (afterLine s ++ more)) ≡ true
+  one-finish p =
+      rw (← after-front s more fed, ← line-front s more fed) (sym (done-fed e (h .state) (s ++ more) (feed-front s more fed)) ∙ p)
+
   keeps-line : (k : Said) → Keeps e next (afterLine s) more k → Keeps e h s more k
   keeps-line k r =
-      let n : length line + 1 + (k .state .taken - next .state .taken) ≡ k .state .taken - h .state .taken = omega (arith, next-taken, r .low) in
       record {
         low = omega (arith, next-taken, r .low);
         high = omega (arith, next-taken, r .high, after-length);
-        says = one-says ∙ r .says ∙ ap (λ (t : List ℕ). k .text ++ resume e (k .state) (t ++ more)) (ap (drop (k .state .taken - next .state .taken)) after-is ∙ drop-drop _ (length line + 1) s ∙ ap (λ (m : ℕ). drop m s) n);
+        says = one-says ∙ r .says ∙ ap (λ (t : List ℕ). k .text ++ resume e (k .state) (t ++ more)) (left-is k (r .low));
+        finish = λ p. rw (← left-is k (r .low)) (r .finish (one-finish p));
       }
 
 -- ---- the whole block
@@ -180,3 +205,65 @@ fits-within e ends size (suc n) h s low fit =
 
 pub fits : (e : Equipment) (ends : Bool) (size : ℕ) (h : Said) (s : List ℕ) → Fit (h .state) (length s) → Fit (handled e ends size h (linesIn s) .state) 0
 fits e ends size h s fit = fits-within e ends size (length s) h s (omega arith) fit
+
+-- ---- what is left
+
+-- where not all is done and there is room for a line more: the input does not end here, and no whole line is left, nor more bytes than
+-- the longest form has
+pub record Settled (ends : Bool) (h : Said) (s : List ℕ) (k : Said) : Type 0 where
+  pub going-on : ends ≡ false
+  pub unfed : hasFeed (drop (k .state .taken - h .state .taken) s) ≡ false
+  pub short : length (drop (k .state .taken - h .state .taken) s) ≤ longest
+
+settled-tail : (ends : Bool) (size : ℕ) (h : Said) (s : List ℕ) → hasFeed s ≡ false → stops size (atTail ends h s) ≡ false → Settled ends h s (atTail ends h s)
+settled-tail true size h s f e = absurd (false≢true (sym e))
+settled-tail false size h s f e = by (h .state .long || ltb longest (length s)) refl
+  where
+    by : (b : Bool) → (h .state .long || ltb longest (length s)) ≡ b → Settled false h s (cond b (dropped h s) h)
+    by true p =
+        let all : h .state .taken + length s - h .state .taken ≡ length s = omega arith in
+        let none : drop (h .state .taken + length s - h .state .taken) s ≡ [] = rw all (drop-length s) in
+        record { going-on = refl; unfed = ap hasFeed none ∙ no-feed; short = omega (arith, ap length none) }
+    by false p =
+        let here = drop-none (h .state .taken) s in
+        record {
+          going-on = refl;
+          unfed = ap hasFeed here ∙ f;
+          short = omega (arith, ap length here, ltb-false longest (length s) (neither (h .state .long) (ltb longest (length s)) p .1));
+        }
+
+settled-by : (e : Equipment) (ends : Bool) (size : ℕ) (h : Said) (s : List ℕ) → (b : Bool) → hasFeed s ≡ b
+    → (hasFeed s ≡ true → stops size (handled e ends size (andSaid h (said e (h .state) (firstLine s))) (linesIn (afterLine s))) ≡ false
+        → Settled ends (andSaid h (said e (h .state) (firstLine s))) (afterLine s) (handled e ends size (andSaid h (said e (h .state) (firstLine s))) (linesIn (afterLine s))))
+    → stops size (handled e ends size h (linesIn s)) ≡ false → Settled ends h s (handled e ends size h (linesIn s))
+settled-by e ends size h s false f rest = rw (handled-unfed e ends size h s f) (by (stops size h) refl)
+  where
+    by : (b : Bool) → stops size h ≡ b → stops size (cond b h (atTail ends h s)) ≡ false → Settled ends h s (cond b h (atTail ends h s))
+    by true p q = absurd (false≢true (sym q ∙ p))
+    by false p q = settled-tail ends size h s f q
+settled-by e ends size h s true f rest = rw (handled-fed e ends size h s f) (by (stops size h) refl)
+  where
+    next : Said
+    next = andSaid h (said e (h .state) (firstLine s))
+
+    last : Said
+    last = handled e ends size next (linesIn (afterLine s))
+
+    by : (b : Bool) → stops size h ≡ b → stops size (cond b h last) ≡ false → Settled ends h s (cond b h last)
+    by true p q = absurd (false≢true (sym q ∙ p))
+    by false p q =
+        let r = rest f q in
+        let low = keeps e ends size next (afterLine s) [] (λ z. refl) .low in
+        let left = left-is e h s [] f (neither _ _ p .0) last low in
+        record { going-on = r .going-on; unfed = rw (← left) (r .unfed); short = rw (← left) (r .short) }
+
+settled-within : (e : Equipment) (ends : Bool) (size n : ℕ) (h : Said) (s : List ℕ) → length s ≤ n → stops size (handled e ends size h (linesIn s)) ≡ false
+    → Settled ends h s (handled e ends size h (linesIn s))
+settled-within e ends size zero h s low = settled-by e ends size h s (hasFeed s) refl (λ f p. absurd (omega (arith, after-shorter s f)))
+settled-within e ends size (suc n) h s low =
+    settled-by e ends size h s (hasFeed s) refl
+    (λ f p. settled-within e ends size n (andSaid h (said e (h .state) (firstLine s))) (afterLine s) (omega (arith, after-shorter s f)) p)
+
+pub settled : (e : Equipment) (ends : Bool) (size : ℕ) (h : Said) (s : List ℕ) → stops size (handled e ends size h (linesIn s)) ≡ false
+    → Settled ends h s (handled e ends size h (linesIn s))
+settled e ends size h s p = settled-within e ends size (length s) h s (omega arith) p

@@ -1,5 +1,6 @@
 pub mod Framing
 pub mod Resuming
+pub mod Ending
 pub mod Fitting
 pub mod Handling
 pub mod Transcripts

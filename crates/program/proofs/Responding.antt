@@ -6,21 +6,22 @@ use mathlib.Core.Bool.{Bool, true, false, cond, _||_, false≢true}
 use mathlib.Core.List.{List, [], _∷_, _++_}
 use Prim.Native.Nat.{ℕ, _+_, _-_, _≤_, _<_, min}
 use native.Mathlib.Omega.{arith}
-use borrow.Author.Tests.{leb-true, le-ltb}
+use borrow.Author.Tests.{leb-true, leb-false, le-ltb}
 use lib.Dec.{leb, ltb}
 use lib.ListN.{length, take, drop, length-take}
-use lib.Seq.{take-nil}
+use lib.Seq.{take-nil, take-all}
 use Rattle.rules.specs.Samples.{Equipment}
 use Rattle.rules.specs.Text.{firstLine, hasFeed, afterLine}
 use Rattle.rules.specs.Transcripts.{linesIn, inputEnd}
 use Rattle.program.specs.States.{Fit, isDone, stopped, readState}
 use Rattle.program.specs.Saying.{Said, said, resume}
-use Rattle.program.specs.Responses.{lineRoom, stops, andSaid, closed, handled, budget, respondOf}
+use Rattle.program.specs.Responses.{lineRoom, longest, stops, andSaid, closed, handled, budget, respondOf}
 use Rattle.program.specs.declared.State.{State}
 use Rattle.program.proofs.Cuts.{take-both, rest-cut}
 use Rattle.program.proofs.Fitting.{fit-less, fit-read}
 use Rattle.program.proofs.Resuming.{said-taken}
-use Rattle.program.proofs.Handling.{Keeps, keeps, fits, handled-fed, handled-unfed, handled-stops}
+use Rattle.program.proofs.Ending.{doneAfter}
+use Rattle.program.proofs.Handling.{Keeps, keeps, Settled, settled, fits, handled-fed, handled-unfed, handled-stops}
 
 module _ (e : Equipment) (q : State) (block : List ℕ) (last : Bool) (size : ℕ) (fit : Fit q 0) where
   -- the bytes of the block that are the input's, and whether it ends with them
@@ -65,15 +66,23 @@ module _ (e : Equipment) (q : State) (block : List ℕ) (last : Bool) (size : �
     pub taken-high : answer .state .taken ≤ q .taken + length block
     taken-high = omega (arith, kept .high, s-length)
 
+    -- what is left of the input's bytes of the block and what follows them, cut as the next call cuts it
+    left-cut : drop (answer .state .taken - q .taken) s ++ take (budget q - length block) more ≡ take (budget (answer .state)) (drop (answer .state .taken - q .taken) block ++ more)
+    left-cut =
+        let d : answer .state .taken - q .taken ≤ budget q = omega (arith, kept .high, s-length) in
+        let left : budget q - (answer .state .taken - q .taken) ≡ budget (answer .state) = omega (arith, kept .low, fit .high) in
+        rest-cut (answer .state .taken - q .taken) (budget q) block more d (omega (arith, kept .high, s-length)) ∙ ap (λ (n : ℕ). take n (drop (answer .state .taken - q .taken) block ++ more)) left
+
     pub says : resume e q (take (budget q) (block ++ more))
         ≡ answer .text ++ resume e (answer .state) (take (budget (answer .state)) (drop (answer .state .taken - q .taken) block ++ more))
     says =
-        let d : answer .state .taken - q .taken ≤ budget q = omega (arith, kept .high, s-length) in
-        let left : budget q - (answer .state .taken - q .taken) ≡ budget (answer .state) = omega (arith, kept .low, fit .high) in
         ap (resume e q) (take-both (budget q) block more)
         ∙ kept .says
-        ∙ ap (λ (l : List ℕ). answer .text ++ resume e (answer .state) l)
-        (rest-cut (answer .state .taken - q .taken) (budget q) block more d (omega (arith, kept .high, s-length)) ∙ ap (λ (n : ℕ). take n (drop (answer .state .taken - q .taken) block ++ more)) left)
+        ∙ ap (λ (l : List ℕ). answer .text ++ resume e (answer .state) l) left-cut
+
+    pub finishes : doneAfter e q (linesIn (take (budget q) (block ++ more))) ≡ true
+        → doneAfter e (answer .state) (linesIn (take (budget (answer .state)) (drop (answer .state .taken - q .taken) block ++ more))) ≡ true
+    finishes p = rw (← left-cut) (kept .finish (rw (← take-both (budget q) block more) p))
 
   -- ---- all done, it stays so
 
@@ -98,3 +107,25 @@ module _ (e : Equipment) (q : State) (block : List ℕ) (last : Bool) (size : �
     pub tail-closed : hasFeed s ≡ false → ends ≡ true → isDone (answer .state) ≡ true
     tail-closed f p =
         rw (answer-is ∙ handled-unfed e ends size begun s f, goes, p) refl
+
+  -- ---- what is left
+
+  -- where not all is done and there is room for a line more
+  module _ (going : isDone (answer .state) ≡ false) (room-left : length (answer .text) + lineRoom ≤ size) where
+    settles : Settled ends begun s answer
+    settles =
+        let goes : stops size answer ≡ false = rw (going) (le-ltb size (length (answer .text) + lineRoom) room-left) in
+        rw answer-is (settled e ends size begun s (rw answer-is at goes))
+
+    -- the block is the input's, whole
+    block-whole : (b : Bool) → (b || leb (budget q) (length block)) ≡ false → take (budget q) block ≡ block
+    block-whole true p = absurd (false≢true (sym p))
+    block-whole false p = take-all (budget q) block (omega (arith, leb-false (budget q) (length block) p))
+
+    pub left-unfed : hasFeed (drop (answer .state .taken - q .taken) block) ≡ false
+    left-unfed =
+        subst (λ (l : List ℕ). hasFeed (drop (answer .state .taken - q .taken) l) ≡ false) (block-whole last (settles .going-on)) (settles .unfed)
+
+    pub left-short : length (drop (answer .state .taken - q .taken) block) ≤ longest
+    left-short =
+        subst (λ (l : List ℕ). length (drop (answer .state .taken - q .taken) l) ≤ longest) (block-whole last (settles .going-on)) (settles .short)

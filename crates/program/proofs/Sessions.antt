@@ -9,15 +9,20 @@ use lib.ListN.{length, take, drop, length-append, length-drop}
 use lib.Seq.{drop-append-seam}
 use Rattle.rules.specs.Samples.{Equipment}
 use Rattle.rules.specs.Text.{hasFeed, firstLine}
-use Rattle.rules.specs.Transcripts.{inputEnd, transcriptOf, transcript}
+use Rattle.rules.specs.Sheets.{readSheet}
+use Rattle.rules.specs.Transcripts.{linesIn, inputEnd, transcriptOf, transcript}
+use Rattle.rules.specs.declared.Refusal.{Refusal}
+use Rattle.rules.specs.declared.SettingsCheck.{SettingsCheck}
 use Rattle.program.specs.States.{Fit, start, isDone}
 use Rattle.program.specs.Saying.{resume}
 use Rattle.program.specs.Responses.{budget, respondOf}
-use Rattle.program.specs.Sessions.{Session, Call, opened, called, during, ending, joined, Roomy, TranscriptLaw}
+use Rattle.program.specs.Sessions.{Session, Call, opened, called, during, ending, joined, cut, Roomy, TranscriptLaw}
 use Rattle.program.proofs.Fitting.{sensible-fit}
 use Rattle.program.proofs.Resuming.{done-resume}
-use Rattle.program.proofs.Transcripts.{resume-start}
-use Rattle.program.proofs.Responding.{s, ends, fit-after, says, taken-low, taken-high, done-stays, line-taken, tail-closed}
+use Rattle.program.proofs.Ending.{doneAfter, done-unfed}
+use Rattle.program.proofs.Framing.{plain-cut}
+use Rattle.program.proofs.Transcripts.{resume-start, known-ends}
+use Rattle.program.proofs.Responding.{s, ends, fit-after, says, finishes, left-unfed, left-short, taken-low, taken-high, done-stays, line-taken, tail-closed}
 
 module _ (e : Equipment) where
   -- what is to be said of the input that is left
@@ -27,7 +32,7 @@ module _ (e : Equipment) where
   -- after some calls that were given `input`
   record Good (k : Session) (input : List ℕ) : Type 0 where
     pub fit : Fit (k .state) 0
-    pub short : length (k .left) ≤ length input
+    pub finish : (more : List ℕ) → doneAfter e start (linesIn (take inputEnd (input ++ more))) ≡ true → doneAfter e (k .state) (linesIn (take (budget (k .state)) (k .left ++ more))) ≡ true
     pub says : (more : List ℕ) → transcript e (input ++ more) ≡ k .text ++ still k more
 
   good-opened : Good opened []
@@ -35,7 +40,7 @@ module _ (e : Equipment) where
   good-opened =
       record {
         fit = record { from-one = omega arith; low = omega arith; high = omega arith; sheet = λ p. omega arith };
-        short = omega arith;
+        finish = λ more p. p;
         says = λ more. sym (resume-start e (take inputEnd more));
       }
 
@@ -57,7 +62,9 @@ module _ (e : Equipment) where
   good-called k input c g =
       record {
         fit = fit-after e (k .state) (k .left ++ c .bytes) false (c .size) (g .fit);
-        short = omega (arith, left-length k c false, g .short, length-append input (c .bytes));
+        finish = λ more p.
+          finishes e (k .state) (k .left ++ c .bytes) false (c .size) (g .fit) more (λ z. absurd (false≢true z))
+          (rw (append-assoc (k .left) (c .bytes) more) (g .finish (c .bytes ++ more) (rw (← append-assoc input (c .bytes) more) p)));
         says = λ more. ap (transcript e) (append-assoc input (c .bytes) more) ∙ g .says (c .bytes ++ more) ∙ call-says k c false (g .fit) more (λ p. absurd (false≢true p));
       }
 
@@ -137,12 +144,24 @@ module _ (e : Equipment) where
   nothing-more : (k : Session) (more : List ℕ) → isDone (k .state) ≡ true → k .text ++ still k more ≡ k .text
   nothing-more k more p = rw (done-resume e (k .state) (take (budget (k .state)) (k .left ++ more)) p) (append-nil (k .text))
 
+  ends-known : (cs : List Call) (cause : Refusal) (n : ℕ) → readSheet (cut cs) .check ≡ SettingsCheck.Refused cause n → hasFeed (drop (readSheet (cut cs) .start) (cut cs)) ≡ true
+      → hasFeed (after cs .left) ≡ false → isDone (after cs .state) ≡ true
+  ends-known cs cause n c f left =
+      let k = after cs in
+      let known = known-ends e (cut cs) cause n c f in
+      let finished = good cs .finish [] (rw append-nil known) in
+      let plain : hasFeed (take (budget (k .state)) (k .left ++ [])) ≡ false = rw (append-nil (k .left)) (plain-cut (budget (k .state)) (k .left) left) in
+      sym (done-unfed e (k .state) (take (budget (k .state)) (k .left ++ [])) plain) ∙ finished
+
   pub transcript-law : TranscriptLaw e
   transcript-law =
       record {
         done = λ cs sizes p. sym ((ended-ending (after cs) (joined cs) sizes (good-ended (after cs) (joined cs) (good cs))) .says ∙ nothing-more (ending e (after cs) sizes) [] p);
-        ends = λ cs sizes r h. all-done (after cs) sizes (good cs .fit) r (omega (arith, good cs .short));
+        ends = λ cs sizes r h. all-done (after cs) sizes (good cs .fit) r h;
         progress = λ q block last size fit going roomy fed. line-taken e q block last size (sensible-fit q fit) going roomy fed;
+        handles = λ q block last size fit going room.
+          (left-unfed e q block last size (sensible-fit q fit) going room, left-short e q block last size (sensible-fit q fit) going room);
+        refused = λ cs cause n c f left. ends-known cs cause n c f left;
         begins = λ cs more. good cs .says more ∙ ap (λ (l : List ℕ). after cs .text ++ l) (sym (ap (drop (length (after cs .text))) (good cs .says more) ∙ drop-append-seam (after cs .text) (still (after cs) more)));
         early = λ cs more p. good cs .says more ∙ nothing-more (after cs) more p;
       }

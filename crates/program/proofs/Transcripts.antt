@@ -1,7 +1,7 @@
 -- From the start, what is written for the lines of an input is the input's transcript.
 -- Assumes nothing.
 use mathlib.Core.Path.{_≡_, refl, sym, ap, ap₂, _∙_, subst}
-use mathlib.Core.Bool.{Bool, true, false, cond}
+use mathlib.Core.Bool.{Bool, true, false, cond, false≢true}
 use mathlib.Core.List.{List, [], _∷_, _++_, append-nil}
 use mathlib.Core.Option.{Option, none, some}
 use Prim.Native.Nat.{ℕ, zero, suc, _+_, _-_, _≤_, _<_}
@@ -34,6 +34,7 @@ use Rattle.program.specs.States.{start, isDone, stopped}
 use Rattle.program.specs.Saying.{Said, onRead, onCheck, phaseAfter, said, sheetLine, sampleLine, endText, resume}
 use Rattle.program.specs.declared.State.{State}
 use Rattle.program.proofs.Framing.{lines-fed, lines-unfed}
+use Rattle.program.proofs.Ending.{doneAfter, done-fed, done-done}
 use Rattle.program.proofs.Resuming.{resume-fed, resume-unfed, done-resume}
 use Rattle.program.proofs.Handling.{after-shorter}
 
@@ -188,3 +189,62 @@ sheet-within e (suc k) s i at lines is long =
 pub resume-start : (e : Equipment) (s : List ℕ) → resume e start s ≡ transcriptOf e s
 unfolding start transcriptOf readSheet
 resume-start e s = sheet-within e 12 s 0 0 [] (omega arith) refl
+
+-- ---- a refused sheet whose line is known
+
+-- the reading from line i on is a refusal, of a line that has its line feed
+record Known (s : List ℕ) (r : SheetReading) : Type 0 where
+  pub cause : Refusal
+  pub line : ℕ
+  pub check : r .check ≡ SettingsCheck.Refused cause line
+  pub fed : hasFeed (drop (r .start) s) ≡ true
+
+known-by : (e : Equipment) (s : List ℕ) (i at : ℕ) (lines : List (List Pair)) (h : i < 13) (long : length lines ≡ i) → Known s (from s i at lines) → (b : Bool) → hasFeed (drop at s) ≡ b
+    → ((more : List (List Pair)) → length more ≡ i + 1 → Known s (from s (i + 1) (at + length (firstLine (drop at s)) + 1) more)
+        → doneAfter e (record { phase = phaseAfter (i + 1); line = i + 1 + 1; long = false; taken = at + length (firstLine (drop at s)) + 1; settings = settingsOf more; board = fresh }) (linesIn (drop (at + length (firstLine (drop at s)) + 1) s)) ≡ true)
+    → doneAfter e (reading (settingsOf lines) i at) (linesIn (drop at s)) ≡ true
+known-by e s i at lines h long k false f rest =
+    let same = from-unended s i at lines h f in
+    absurd (false≢true (sym f ∙ rw same at (k .fed)))
+known-by e s i at lines h long k true f rest = by (line-read .check) refl
+  where
+    line-read : LineRead
+    line-read = lineRead i (firstLine (drop at s)) (settingsOf lines)
+
+    q : State
+    q = reading (settingsOf lines) i at
+
+    stepped : (r : Said) → onRead q (length (firstLine (drop at s)) + 1) line-read ≡ r
+        → doneAfter e q (linesIn (drop at s)) ≡ doneAfter e (r .state) (linesIn (drop (at + length (firstLine (drop at s)) + 1) s))
+    stepped r p = done-fed e q (drop at s) f ∙ rw (said-read e s i at lines h long, p, after-is e s i at lines h long f)
+
+    by : (c : SettingsCheck) → line-read .check ≡ c → doneAfter e q (linesIn (drop at s)) ≡ true
+    by (SettingsCheck.Refused cause n) c =
+        stepped (onCheck q (length (firstLine (drop at s)) + 1) (line-read .settings) (SettingsCheck.Refused cause n)) (ap (onCheck q (length (firstLine (drop at s)) + 1) (line-read .settings)) c)
+        ∙ done-done e (stopped q (length (firstLine (drop at s)) + 1)) (linesIn (drop (at + length (firstLine (drop at s)) + 1) s)) refl
+    by SettingsCheck.Accepted c =
+        let g = on-accepted s i at lines h f long line-read refl c in
+        go (lines ++ (g .read ∷ [])) (length-append lines (g .read ∷ []) ∙ ap (λ (n : ℕ). n + 1) long) (g .settings) (g .reading)
+      where
+        go : (more : List (List Pair)) → length more ≡ i + 1 → line-read .settings ≡ settingsOf more → from s i at lines ≡ from s (i + 1) (at + length (firstLine (drop at s)) + 1) more → doneAfter e q (linesIn (drop at s)) ≡ true
+        go more l st is =
+            let same : at + (length (firstLine (drop at s)) + 1) ≡ at + length (firstLine (drop at s)) + 1 = omega arith in
+            let onto : onRead q (length (firstLine (drop at s)) + 1) line-read ≡ record { state = onward e s i at lines h long f (settingsOf more); text = [] } = rw (c, st, same) in
+            stepped (record { state = onward e s i at lines h long f (settingsOf more); text = [] }) onto ∙ rest more l (subst (Known s) is k)
+
+known-within : (e : Equipment) (k : ℕ) (s : List ℕ) (i at : ℕ) (lines : List (List Pair)) → i + suc k ≡ 13 → length lines ≡ i → Known s (from s i at lines)
+    → doneAfter e (reading (settingsOf lines) i at) (linesIn (drop at s)) ≡ true
+known-within e zero s i at lines is long known =
+    known-by e s i at lines (omega arith) long known (hasFeed (drop at s)) refl
+    (λ more l n.
+      let whole = from-end s (i + 1) (at + length (firstLine (drop at s)) + 1) more (omega arith) in
+      let clash : SettingsCheck.Accepted ≡ SettingsCheck.Refused (n .cause) (n .line) = sym (ap (λ (r : SheetReading). r .check) whole) ∙ n .check in
+      let z : _≡_ {A = ℕ} 0 1 = cc in absurd (omega arith))
+known-within e (suc k) s i at lines is long known =
+    known-by e s i at lines (omega arith) long known (hasFeed (drop at s)) refl
+    (λ more l n. rw (ne-eqb (i + 1) 13 (λ z. omega arith)) (known-within e k s (i + 1) (at + length (firstLine (drop at s)) + 1) more (omega arith) l n))
+
+pub known-ends : (e : Equipment) (s : List ℕ) (cause : Refusal) (n : ℕ) → readSheet s .check ≡ SettingsCheck.Refused cause n → hasFeed (drop (readSheet s .start) s) ≡ true
+    → doneAfter e start (linesIn s) ≡ true
+unfolding start readSheet
+known-ends e s cause n c f = known-within e 12 s 0 0 [] (omega arith) refl (record { cause = cause; line = n; check = c; fed = f })

@@ -7,9 +7,12 @@ use Prim.Native.Nat.{ℕ, _+_, _-_, _≤_, _<_}
 use lib.ListN.{length, take, drop}
 use Rattle.rules.specs.Samples.{Equipment}
 use Rattle.rules.specs.Text.{firstLine, hasFeed}
-use Rattle.rules.specs.Transcripts.{transcript}
+use Rattle.rules.specs.Sheets.{readSheet}
+use Rattle.rules.specs.Transcripts.{inputEnd, transcript}
+use Rattle.rules.specs.declared.Refusal.{Refusal}
+use Rattle.rules.specs.declared.SettingsCheck.{SettingsCheck}
 use Rattle.program.specs.States.{start, isDone, sensible}
-use Rattle.program.specs.Responses.{budget, lineRoom, respondOf}
+use Rattle.program.specs.Responses.{budget, lineRoom, longest, respondOf}
 use Rattle.program.specs.declared.State.{State}
 
 -- a host between two calls: the state, the bytes that have come and are not taken, and all that was written
@@ -41,7 +44,8 @@ unfoldable pub during : Equipment → Session → List Call → Session
 during e k [] = k
 during e k (c ∷ cs) = during e (called e false k c) cs
 
--- when it has ended: calls with the sizes of the buffers lent to them and no new bytes
+-- when it has ended: calls with the sizes of the buffers lent to them and no new bytes (new bytes that come with the news of the end
+-- are those of a call before, with a buffer of size 0)
 unfoldable pub ending : Equipment → Session → List ℕ → Session
 ending e k [] = k
 ending e k (size ∷ sizes) = ending e (called e true k (record { bytes = []; size = size })) sizes
@@ -50,6 +54,14 @@ ending e k (size ∷ sizes) = ending e (called e true k (record { bytes = []; si
 unfoldable pub joined : List Call → List ℕ
 joined [] = []
 joined (c ∷ cs) = c .bytes ++ joined cs
+
+-- its first 10^12 bytes
+abbrev pub cut : List Call → List ℕ
+cut cs = take inputEnd (joined cs)
+
+-- the bytes of a block that a call leaves
+abbrev pub leftOf : Equipment → State → List ℕ → Bool → ℕ → List ℕ
+leftOf e q block last size = drop (respondOf e q block last size .state .taken - q .taken) block
 
 -- each buffer has room for one line
 unfoldable pub Roomy : List ℕ → Type 0
@@ -61,12 +73,21 @@ pub record TranscriptLaw (e : Equipment) : Type 0 where
   pub done : (cs : List Call) (sizes : List ℕ) → isDone (ending e (during e opened cs) sizes .state) ≡ true
       → ending e (during e opened cs) sizes .text ≡ transcript e (joined cs)
   -- all is done after as many calls with room for a line as there are bytes left, and one
-  pub ends : (cs : List Call) (sizes : List ℕ) → Roomy sizes → length (joined cs) < length sizes
+  pub ends : (cs : List Call) (sizes : List ℕ) → Roomy sizes → length (during e opened cs .left) < length sizes
       → isDone (ending e (during e opened cs) sizes .state) ≡ true
   -- a whole line at hand is taken, where there is room for one
   pub progress : (q : State) (block : List ℕ) (last : Bool) (size : ℕ) → sensible q ≡ true → isDone q ≡ false → lineRoom ≤ size
       → hasFeed (take (budget q) block) ≡ true
       → q .taken + (length (firstLine (take (budget q) block)) + 1) ≤ respondOf e q block last size .state .taken
+  -- as many lines are handled as are there and fit: where all is not done and there is room for a line more, no whole line is left,
+  -- and no more bytes than the longest form has, however long the line is
+  pub handles : (q : State) (block : List ℕ) (last : Bool) (size : ℕ) → sensible q ≡ true
+      → isDone (respondOf e q block last size .state) ≡ false → length (respondOf e q block last size .text) + lineRoom ≤ size
+      → (hasFeed (leftOf e q block last size) ≡ false) × (length (leftOf e q block last size) ≤ longest)
+  -- a refused sheet ends all as soon as its line is known: the refused line has its line feed, and no whole line is left
+  pub refused : (cs : List Call) (cause : Refusal) (n : ℕ) → readSheet (cut cs) .check ≡ SettingsCheck.Refused cause n
+      → hasFeed (drop (readSheet (cut cs) .start) (cut cs)) ≡ true → hasFeed (during e opened cs .left) ≡ false
+      → isDone (during e opened cs .state) ≡ true
   -- before the input's end, what was written begins its transcript, whatever comes
   pub begins : (cs : List Call) (more : List ℕ)
       → transcript e (joined cs ++ more) ≡ during e opened cs .text ++ drop (length (during e opened cs .text)) (transcript e (joined cs ++ more))
