@@ -15,7 +15,7 @@ use Rattle.rules.specs.Text.{firstLine, hasFeed, afterLine}
 use Rattle.rules.specs.Transcripts.{linesIn, inputEnd}
 use Rattle.program.specs.States.{Fit, isDone, stopped, readState}
 use Rattle.program.specs.Saying.{Said, said, resume}
-use Rattle.program.specs.Responses.{lineRoom, longest, stops, andSaid, closed, handled, budget, respondOf}
+use Rattle.program.specs.Responses.{lineRoom, longest, stops, andSaid, closed, dropped, handled, budget, respondOf}
 use Rattle.program.specs.declared.State.{State}
 use Rattle.program.proofs.Cuts.{take-both, rest-cut}
 use Rattle.program.proofs.Fitting.{fit-less, fit-read}
@@ -129,3 +129,24 @@ module _ (e : Equipment) (q : State) (block : List ℕ) (last : Bool) (size : �
     pub left-short : length (drop (answer .state .taken - q .taken) block) ≤ longest
     left-short =
         subst (λ (l : List ℕ). length (drop (answer .state .taken - q .taken) l) ≤ longest) (block-whole last (settles .going-on)) (settles .short)
+
+  -- ---- a call that takes nothing
+
+  quiet : hasFeed s ≡ false → ends ≡ false → answer .text ≡ []
+  quiet f p = rw (answer-is ∙ handled-unfed e ends size begun s f, p) (by (stops size begun) (q .long || ltb longest (length s)))
+    where
+      by : (b k : Bool) → cond b begun (cond k (dropped begun s) begun) .text ≡ []
+      by true k = refl
+      by false true = refl
+      by false false = refl
+
+  -- where there is room for a line and all is not done, no more bytes stand there than the longest form has
+  pub nothing-taken : lineRoom ≤ size → isDone (answer .state) ≡ false → answer .state .taken - q .taken ≡ 0 → length block ≤ longest
+  nothing-taken roomy going none = by-done (isDone q) refl (hasFeed s) refl ends refl
+    where
+      by-done : (b : Bool) → isDone q ≡ b → (f : Bool) → hasFeed s ≡ f → (k : Bool) → ends ≡ k → length block ≤ longest
+      by-done true p f r k t = absurd (false≢true (sym going ∙ ap (λ (h : Said). isDone (h .state)) (done-stays p) ∙ p))
+      by-done false p true r k t = absurd (omega (arith, line-taken p roomy r))
+      by-done false p false r true t = absurd (false≢true (sym going ∙ tail-closed p roomy r t))
+      by-done false p false r false t =
+          omega (arith, left-short going (omega (arith, ap length (quiet r t))), ap (λ (n : ℕ). length (drop n block)) none)

@@ -17,10 +17,11 @@ use Rattle.buffers.specs.Written.{Wrote}
 use Rattle.buffers.proofs.Writing.{and-then}
 use Rattle.program.specs.States.{isDone, readsSheet, stopped, sensible, readState, Fit}
 use Rattle.program.specs.Saying.{Said}
-use Rattle.program.specs.Responses.{lineRoom, handled, budget, respondOf}
+use Rattle.program.specs.Responses.{lineRoom, longest, handled, budget, respondOf}
 use Rattle.program.specs.declared.State.{State}
 use Rattle.program.proofs.Fitting.{sensible-fit, fit-read}
 use Rattle.program.proofs.Handling.{handled-stops}
+use Rattle.program.proofs.Responding.{nothing-taken}
 use Rattle.respond.specs.Carrying.{checkText, Stands, SheetSaid, begun, Carried, Stuck, Closed, Responds}
 use Rattle.respond.specs.declared.state.Handled.{Handled}
 use Rattle.respond.specs.declared.sheet_lines.SheetLines.{SheetLines}
@@ -139,6 +140,11 @@ module _ (q : State) (block : List ℕ) (last : Bool) (e : sensible q ≡ true) 
   fit-part end p =
       let n = ap length (part-is end p) ∙ length-take (budget q) block in
       record { from-one = fit .from-one; low = fit .low; high = omega (arith, fit .high, n); sheet = fit .sheet }
+
+  -- a call that takes nothing leaves no more bytes than the longest form has
+  pub short-left : (d d′ : List ℕ) (r : Responded) → Responds q block last d d′ r → lineRoom ≤ length d → r .done ≡ false → r .taken ≡ 0 → length block ≤ longest
+  short-left d d′ r c room going none =
+      nothing-taken ourEquipment q block last (length d) fit room (sym (ap isDone (c .state)) ∙ sym (c .done) ∙ going) (sym (c .taken) ∙ none)
 
   pub responds : (end : ℕ) → end ≡ min (budget q) (length block) → (ends : Bool) → ends ≡ (last || leb (budget q) (length block)) → (d d′ : List ℕ) (r : Handled)
       → Closed ends (take (end - 0) (drop 0 block)) d (begun q) d′ r

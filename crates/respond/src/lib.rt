@@ -94,10 +94,13 @@ fn least(a: usize, b: u64) -> usize
     if (a as u64) < b { a } else { b as usize }
 }
 
-// The answer to a block of input, `last` where the input ends with it: as many lines as are there and fit into the lent buffer.
+// The answer to a block of input, `last` where the input ends with it: as many lines as are there and fit into the lent buffer. A line is
+// handled where the buffer has room for 128 bytes more, and a line without its line feed waits while it is not longer than 128
+// bytes: lend a buffer of 128 bytes or more, and blocks that can hold more than 128.
 pub fn respond(state: State, block: &[u8], last: bool, out: &mut [u8]) -> Responded
     ensures { λ r. ⌜ Responds state (now (block .entry)) last (now (out .entry)) (now (out .exit)) r ⌝ }
     ensures { λ r. ⌜ (r .taken ≤ length (now (block .entry))) × (r .written ≤ length (now (out .entry))) ⌝ }
+    ensures { λ r. ⌜ (128 ≤ length (now (out .entry)) → r .done ≡ false → r .taken ≡ 0 → length (now (block .entry)) ≤ 128) ⌝ }
 {
     if !sensible(state) {
         return Responded {

@@ -1,10 +1,11 @@
 -- `respond::respond` meets its contract.
 -- Assumes nothing.
 use mathlib.Core.Path.{sym, _∙_}
+use mathlib.Core.Bool.{false≢true}
 use native.Mathlib.Omega.{arith}
 use denote.Ref.{now}
 use borrow.Author.Tests.{not-true, not-false}
-use Rattle.respond.proofs.Whole.{wild, taken-low, fit-part, part-inside, responds}
+use Rattle.respond.proofs.Whole.{wild, taken-low, fit-part, part-inside, short-left, responds}
 use borrow.Author.Needs.{needs}
 use Rattle.respond.proofs.respond.Statement.{statement}
 use Rattle.respond.proofs.respond.Tie as tie
@@ -19,7 +20,7 @@ returns : tie.Need-returns
 returns c =
     let a = c .before .before .before .before .before .args in
     let k = c .before .before .sensible in
-    (wild (a .state) (now (a .block)) (a .last) (now (a .out)) (c .stop .result) (sym (k .ensures) ∙ not-true (k .result) (c .before .if1 .taken)) (c .stop .ensures), (omega arith, omega arith))
+    (wild (a .state) (now (a .block)) (a .last) (now (a .out)) (c .stop .result) (sym (k .ensures) ∙ not-true (k .result) (c .before .if1 .taken)) (c .stop .ensures), ((omega arith, omega arith), λ room going none. absurd (false≢true (sym going))))
 
 sub-budget : tie.Need-sub-budget
 sub-budget c =
@@ -59,7 +60,9 @@ returns-2 c =
     let l = c .before .before .before .before .before .before .before .least in
     let e = c .before .before .before .before .before .before .either in
     let r = c .before .before .before .handle in
-    (responds (a .state) (now (a .block)) (a .last) (sym (k .ensures) ∙ not-false (k .result) (c .before .before .before .before .before .before .before .before .before .if1 .left)) (l .result) (l .ensures) (e .result) (e .ensures) (now (a .out)) _ (r .result) (r .ensures), (part-inside (now (a .block)) (l .result) (r .result .at) (r .ensures .inside), r .ensures .wrote .inside))
+    let told = sym (k .ensures) ∙ not-false (k .result) (c .before .before .before .before .before .before .before .before .before .if1 .left) in
+    let whole = responds (a .state) (now (a .block)) (a .last) told (l .result) (l .ensures) (e .result) (e .ensures) (now (a .out)) _ (r .result) (r .ensures) in
+    (whole, ((part-inside (now (a .block)) (l .result) (r .result .at) (r .ensures .inside), r .ensures .wrote .inside), short-left (a .state) (now (a .block)) (a .last) told (now (a .out)) _ _ whole))
 
 pub respond-spec : {M : Type 1} → statement M
 respond-spec =
