@@ -1,12 +1,12 @@
 -- The copy to the front of a buffer, byte by byte, and the loops' measures.
 -- Assumes nothing.
 use mathlib.Core.Path.{_≡_, refl, sym, ap, _∙_}
-use mathlib.Core.Bool.{Bool, true, false, cond, _&&_}
+use mathlib.Core.Bool.{Bool, true, false, cond, not, _&&_, false≢true}
 use mathlib.Core.List.{List, [], _∷_, _++_}
 use Prim.Native.Nat.{ℕ, suc, _+_, _-_, _≤_, _<_}
 use native.Mathlib.Numerals.{add-one}
 use native.Mathlib.Omega.{arith}
-use borrow.Author.Tests.{ltb-true}
+use borrow.Author.Tests.{ltb-true, ltb-false}
 use lib.Dec.{ltb}
 use lib.ListN.{length, getD, set, take, drop, length-drop, length-append}
 use lib.Seq.{length-take-le, drop-cons, set-at, append-snoc, take-suc, take-at, getD-append-add, getD-drop}
@@ -58,3 +58,25 @@ fewer m g n taken e h = rw e (by g)
     by : (k : Bool) → cond (k && ltb 0 taken) (n - taken + 1) 0 < n + 1
     by true = by-taken (ltb 0 taken) refl
     by false = omega arith
+
+-- where no more is to do though the program goes on, nothing was taken and all is not done
+pub rest-short : (m g done put : Bool) (taken : ℕ) {P : Type 0} → m ≡ (g && ltb 0 taken) → g ≡ (put && not done) → (done ≡ false → taken ≡ 0 → P) → m ≡ false → g ≡ true → P
+rest-short m g done put taken a b f p q = f (undone put done (sym b ∙ q)) (none g (ltb 0 taken) refl (sym a ∙ p) q)
+  where
+    undone : (k d : Bool) → (k && not d) ≡ true → d ≡ false
+    undone true false e = refl
+    undone true true e = absurd (false≢true e)
+    undone false d e = absurd (false≢true e)
+
+    none : (k t : Bool) → ltb 0 taken ≡ t → (k && t) ≡ false → k ≡ true → taken ≡ 0
+    none true true r e l = absurd (false≢true (sym e))
+    none true false r e l = omega (arith, ltb-false 0 taken r)
+    none false t r e l = absurd (false≢true l)
+
+both-first : (a b : Bool) → (a && b) ≡ true → a ≡ true
+both-first true b e = refl
+both-first false b e = absurd (false≢true e)
+
+-- the program goes on only where the block's answers did
+pub goes-on : (g a b : Bool) → g ≡ (a && b) → g ≡ true → a ≡ true
+goes-on g a b e p = both-first a b (sym e ∙ p)

@@ -1,8 +1,8 @@
 // The program `board`: document 01, "Image and program". A loop over read, respond and write; what is written for which input is
 // `respond`'s contract and the transcript law.
 ghost use mathlib.Core.Path.{_≡_};
-ghost use mathlib.Core.Bool.{_&&_};
-ghost use Prim.Native.Nat.{_+_, _-_, _≤_};
+ghost use mathlib.Core.Bool.{true, _&&_};
+ghost use Prim.Native.Nat.{_+_, _-_, _≤_, _<_};
 ghost use lib.ListN.{length, take, drop};
 use libc::STDIN_FILENO;
 use libc::STDOUT_FILENO;
@@ -26,7 +26,9 @@ struct Answered {
 // The answers to a block's lines, written out each time that the buffer is full or the block is handled. A write that fails ends the
 // program.
 fn answer(q: State, block: &[u8], last: bool, out: &mut [u8]) -> Answered
+    requires { ⌜ 128 ≤ length (now out) ⌝ }
     ensures { λ r. ⌜ r .at ≤ length (now (block .entry)) ⌝ }
+    ensures { λ r. ⌜ (r .going ≡ true → length (now (block .entry)) - r .at ≤ 128) ⌝ }
 {
     let end = block.len();
     let mut state = q;
@@ -58,9 +60,9 @@ struct Got {
     failed: bool,
 }
 
-// One read to a place of the buffer, of no more bytes than the budget.
+// One read to a place of the buffer, which is not full, of no more bytes than the budget.
 fn read_to(buf: &mut [u8], have: usize, budget: u64) -> Got
-    requires { ⌜ have ≤ length (now buf) ⌝ }
+    requires { ⌜ have < length (now buf) ⌝ }
     ensures { λ r. ⌜ (have + r .bytes ≤ length (now (buf .entry))) × (r .bytes ≤ budget) ⌝ }
 {
     let end = have + least(buf.len() - have, budget);
@@ -86,8 +88,11 @@ fn to_front(buf: &mut [u8], from: usize, end: usize) -> usize
     n
 }
 
-// Blocks of input until its end, or until all is done: no more than 10^12 bytes are read.
-fn run(buf: &mut [u8], out: &mut [u8]) {
+// Blocks of input until its end, or until all is done: no more than 10^12 bytes are read. No more than 128 bytes wait for their line
+// feed, so there is always room to read to.
+fn run(buf: &mut [u8], out: &mut [u8])
+    requires { ⌜ (128 < length (now buf)) × (128 ≤ length (now out)) ⌝ }
+{
     let mut state = start();
     let mut have = 0;
     let mut budget: u64 = 1000000000000;

@@ -234,7 +234,7 @@ settled-tail false size h s f e = by (h .state .long || ltb longest (length s)) 
 
 settled-by : (e : Equipment) (ends : Bool) (size : ℕ) (h : Said) (s : List ℕ) → (b : Bool) → hasFeed s ≡ b
     → (hasFeed s ≡ true → stops size (handled e ends size (andSaid h (said e (h .state) (firstLine s))) (linesIn (afterLine s))) ≡ false
-        → Settled ends (andSaid h (said e (h .state) (firstLine s))) (afterLine s) (handled e ends size (andSaid h (said e (h .state) (firstLine s))) (linesIn (afterLine s))))
+    → Settled ends (andSaid h (said e (h .state) (firstLine s))) (afterLine s) (handled e ends size (andSaid h (said e (h .state) (firstLine s))) (linesIn (afterLine s))))
     → stops size (handled e ends size h (linesIn s)) ≡ false → Settled ends h s (handled e ends size h (linesIn s))
 settled-by e ends size h s false f rest = rw (handled-unfed e ends size h s f) (by (stops size h) refl)
   where

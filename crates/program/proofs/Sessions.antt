@@ -63,8 +63,8 @@ module _ (e : Equipment) where
       record {
         fit = fit-after e (k .state) (k .left ++ c .bytes) false (c .size) (g .fit);
         finish = λ more p.
-          finishes e (k .state) (k .left ++ c .bytes) false (c .size) (g .fit) more (λ z. absurd (false≢true z))
-          (rw (append-assoc (k .left) (c .bytes) more) (g .finish (c .bytes ++ more) (rw (← append-assoc input (c .bytes) more) p)));
+            finishes e (k .state) (k .left ++ c .bytes) false (c .size) (g .fit) more (λ z. absurd (false≢true z))
+            (rw (append-assoc (k .left) (c .bytes) more) (g .finish (c .bytes ++ more) (rw (← append-assoc input (c .bytes) more) p)));
         says = λ more. ap (transcript e) (append-assoc input (c .bytes) more) ∙ g .says (c .bytes ++ more) ∙ call-says k c false (g .fit) more (λ p. absurd (false≢true p));
       }
 
@@ -160,7 +160,7 @@ module _ (e : Equipment) where
         ends = λ cs sizes r h. all-done (after cs) sizes (good cs .fit) r h;
         progress = λ q block last size fit going roomy fed. line-taken e q block last size (sensible-fit q fit) going roomy fed;
         handles = λ q block last size fit going room.
-          (left-unfed e q block last size (sensible-fit q fit) going room, left-short e q block last size (sensible-fit q fit) going room);
+            (left-unfed e q block last size (sensible-fit q fit) going room, left-short e q block last size (sensible-fit q fit) going room);
         refused = λ cs cause n c f left. ends-known cs cause n c f left;
         begins = λ cs more. good cs .says more ∙ ap (λ (l : List ℕ). after cs .text ++ l) (sym (ap (drop (length (after cs .text))) (good cs .says more) ∙ drop-append-seam (after cs .text) (still (after cs) more)));
         early = λ cs more p. good cs .says more ∙ nothing-more (after cs) more p;

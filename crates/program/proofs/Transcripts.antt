@@ -201,7 +201,7 @@ record Known (s : List ℕ) (r : SheetReading) : Type 0 where
 
 known-by : (e : Equipment) (s : List ℕ) (i at : ℕ) (lines : List (List Pair)) (h : i < 13) (long : length lines ≡ i) → Known s (from s i at lines) → (b : Bool) → hasFeed (drop at s) ≡ b
     → ((more : List (List Pair)) → length more ≡ i + 1 → Known s (from s (i + 1) (at + length (firstLine (drop at s)) + 1) more)
-        → doneAfter e (record { phase = phaseAfter (i + 1); line = i + 1 + 1; long = false; taken = at + length (firstLine (drop at s)) + 1; settings = settingsOf more; board = fresh }) (linesIn (drop (at + length (firstLine (drop at s)) + 1) s)) ≡ true)
+    → doneAfter e (record { phase = phaseAfter (i + 1); line = i + 1 + 1; long = false; taken = at + length (firstLine (drop at s)) + 1; settings = settingsOf more; board = fresh }) (linesIn (drop (at + length (firstLine (drop at s)) + 1) s)) ≡ true)
     → doneAfter e (reading (settingsOf lines) i at) (linesIn (drop at s)) ≡ true
 known-by e s i at lines h long k false f rest =
     let same = from-unended s i at lines h f in
@@ -237,9 +237,9 @@ known-within : (e : Equipment) (k : ℕ) (s : List ℕ) (i at : ℕ) (lines : Li
 known-within e zero s i at lines is long known =
     known-by e s i at lines (omega arith) long known (hasFeed (drop at s)) refl
     (λ more l n.
-      let whole = from-end s (i + 1) (at + length (firstLine (drop at s)) + 1) more (omega arith) in
-      let clash : SettingsCheck.Accepted ≡ SettingsCheck.Refused (n .cause) (n .line) = sym (ap (λ (r : SheetReading). r .check) whole) ∙ n .check in
-      let z : _≡_ {A = ℕ} 0 1 = cc in absurd (omega arith))
+    let whole = from-end s (i + 1) (at + length (firstLine (drop at s)) + 1) more (omega arith) in
+    let clash : SettingsCheck.Accepted ≡ SettingsCheck.Refused (n .cause) (n .line) = sym (ap (λ (r : SheetReading). r .check) whole) ∙ n .check in
+    let z : _≡_ {A = ℕ} 0 1 = cc in absurd (omega arith))
 known-within e (suc k) s i at lines is long known =
     known-by e s i at lines (omega arith) long known (hasFeed (drop at s)) refl
     (λ more l n. rw (ne-eqb (i + 1) 13 (λ z. omega arith)) (known-within e k s (i + 1) (at + length (firstLine (drop at s)) + 1) more (omega arith) l n))

@@ -1,26 +1,26 @@
 -- `board::answer` meets its contract, and ends: a turn that goes on has taken some bytes of the block.
 -- Assumes nothing.
-use mathlib.Core.Path.{_≡_, refl}
-use mathlib.Core.Bool.{cond}
+use mathlib.Core.Path.{_≡_, refl, sym}
+use mathlib.Core.Bool.{true, false, cond, false≢true}
 use Prim.Native.Nat.{_+_, _-_, _≤_}
 use native.Mathlib.Omega.{arith}
 use denote.Ref.{now}
 use lib.ListN.{length, drop, length-take, length-drop}
-use Rattle.board.proofs.Moving.{fewer}
+use Rattle.board.proofs.Moving.{fewer, rest-short}
 use borrow.Author.Needs.{needs}
 use Rattle.board.proofs.answer.Statement.{statement}
 use Rattle.board.proofs.answer.Tie as tie
 
 abbrev Inv-loop : tie.InvT-loop
 Inv-loop block last out₀ end state₀ at₀ going₀ more₀ out state at going more =
-    (at ≤ length block) × (length out ≡ length out₀)
+    (at ≤ length block) × (length out ≡ length out₀) × (more ≡ false → going ≡ true → length block - at ≤ 128)
 
 abbrev μ-loop : tie.MeasureT-loop
 μ-loop block last out₀ end state₀ at₀ going₀ more₀ out state at going more =
     cond more (length block - at + 1) 0
 
 loop-holds : tie.Need-loop-holds Inv-loop μ-loop
-loop-holds c = (omega arith, refl)
+loop-holds c = (omega arith, refl, λ p. absurd (false≢true (sym p)))
 
 sub-respond : tie.Need-sub-respond Inv-loop μ-loop
 sub-respond c = search needs
@@ -78,13 +78,18 @@ loop-again c =
     let t = c .before .before .before .before .before .before .before .before .before .respond .ensures .1 .0 in
     let n = length-take (length s - w .at) (drop (w .at) s) in
     let m = length-drop (w .at) s in
-    (omega (arith, w .inv .0, n, m, t), search needs)
+    let room : 128 ≤ length (w .out) = omega (arith, w .inv .1, c .before .before .before .before .before .before .before .before .before .before .before .before .before .before .before .before .pre) in (
+      omega (arith, w .inv .0, n, m, t),
+      search needs,
+      rest-short (c .both2 .result) (c .before .both .result) (c .before .before .before .before .before .before .before .before .before .respond .result .done) (c .before .before .before .before .write-all .result) (c .before .before .before .before .before .before .before .before .before .respond .result .taken) (c .both2 .ensures) (c .before .both .ensures)
+          (λ going none. let short = c .before .before .before .before .before .before .before .before .before .respond .ensures .1 .1 room going none in omega (arith, n, m, short)),
+    )
 
 same-length : tie.Need-same-length Inv-loop μ-loop
 same-length c = search needs
 
 returns : tie.Need-returns Inv-loop μ-loop
-returns c = search needs
+returns c = let w = c .before .loop in (w .inv .0, w .inv .2 (c .loop-test .left))
 
 pub answer-spec : {M : Type 1} → statement M
 answer-spec =

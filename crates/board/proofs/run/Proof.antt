@@ -1,18 +1,18 @@
 -- `board::run` is safe and ends: a turn that goes on has read some of the 10^12 bytes that may be read.
 -- Assumes nothing.
 use mathlib.Core.Path.{_≡_, refl}
-use mathlib.Core.Bool.{cond}
+use mathlib.Core.Bool.{true, cond}
 use Prim.Native.Nat.{_+_, _≤_}
 use native.Mathlib.Omega.{arith}
 use lib.ListN.{length}
-use Rattle.board.proofs.Moving.{fewer}
+use Rattle.board.proofs.Moving.{fewer, goes-on}
 use borrow.Author.Needs.{needs}
 use Rattle.board.proofs.run.Statement.{statement}
 use Rattle.board.proofs.run.Tie as tie
 
 abbrev Inv-loop : tie.InvT-loop
 Inv-loop buf₀ out₀ state₀ have₀ budget₀ going₀ buf out state have budget going =
-    (have ≤ length buf) × (length buf ≡ length buf₀) × (length out ≡ length out₀)
+    (have ≤ length buf) × (length buf ≡ length buf₀) × (length out ≡ length out₀) × (going ≡ true → have ≤ 128)
 
 abbrev μ-loop : tie.MeasureT-loop
 μ-loop buf₀ out₀ state₀ have₀ budget₀ going₀ buf out state have budget going =
@@ -22,10 +22,11 @@ start-requires : tie.Need-start-requires Inv-loop μ-loop
 start-requires c κs = search needs
 
 loop-holds : tie.Need-loop-holds Inv-loop μ-loop
-loop-holds c = (omega arith, refl, refl)
+loop-holds c = (omega arith, refl, refl, λ p. omega arith)
 
 read-to-requires : tie.Need-read-to-requires Inv-loop μ-loop
-read-to-requires c κs = search needs
+read-to-requires c κs =
+    let w = c .before .before .loop in let k = w .inv .3 (c .before .loop-test .taken) in search needs
 
 same-length : tie.Need-same-length Inv-loop μ-loop
 same-length c = search needs
@@ -66,7 +67,13 @@ loop-less c =
     rw (c .before .before .before .before .before .before .before .before .before .before .before .before .before .before .before .before .before .loop-test .taken) (fewer (c .both .result) (c .before .before .before .before .before .before .before .before .answer .result .going) (c .before .before .before .before .before .before .before .before .before .before .before .before .before .before .before .before .before .before .loop .budget) (r .result .bytes) (c .both .ensures) (omega (arith, r .ensures .1)))
 
 loop-again : tie.Need-loop-again Inv-loop μ-loop
-loop-again c = search needs
+loop-again c = (
+  search needs,
+  search needs,
+  search needs,
+  λ p.
+      let k = c .before .before .before .before .before .before .before .before .answer .ensures .1 (goes-on _ _ _ (c .both .ensures) p) in search needs,
+)
 
 same-length-3 : tie.Need-same-length-3 Inv-loop μ-loop
 same-length-3 c = search needs
