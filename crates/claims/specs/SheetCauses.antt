@@ -71,8 +71,8 @@ pub record SheetsRefusedRightly : Type 0 where
   pub settings : (s : List ℕ) → readSheet s .check ≡ SettingsCheck.Accepted
       → readSheet s .settings ≡ settingsOf (map (λ i. linePairs i s) (0 ∷ 1 ∷ 2 ∷ 3 ∷ 4 ∷ 5 ∷ 6 ∷ 7 ∷ 8 ∷ 9 ∷ 10 ∷ 11 ∷ 12 ∷ []))
   pub no-settings : (s : List ℕ) → 0 < settingsNumber (readSheet s .check) → readSheet s .settings ≡ settingsOf []
-  -- "hands back the refused line as a part of the caller's own bytes, without its line feed": it begins where that line stands in the text,
-  -- "a missing line is the empty part at the end", and it is that line; `IsPart` in sheet/specs/Parts.antt says that it stands there in memory
+  -- "hands back the refused line as a part of the caller's own bytes, without its line feed; a missing line is the empty part at the end": the part
+  -- begins where the text has that line, which is inside it, and at the end where there is none (`IsPart` in sheet/specs/Parts.antt: in the caller's memory too)
   pub place : (s : List ℕ) (i n : ℕ) → 0 < n → FirstCauseAt s i n → drop (readSheet s .start) s ≡ fromLine i s
   pub inside : (s : List ℕ) → readSheet s .start ≤ length s
   pub missing : (s : List ℕ) (i n : ℕ) → 0 < n → FirstCauseAt s i n → fromLine i s ≡ [] → readSheet s .start ≡ length s
