@@ -8,7 +8,7 @@
 -- The exported functions, for C and Rust, promise the same words: `saltdelta_fresh` gives `fresh`; the number, record and report of
 -- `saltdelta_step` are those of `stepOf ourEquipment`, the answer and settings of `saltdelta_read_sheet` those of `readSheet` and `handedBack`
 -- (saltdelta/specs/Answers.antt); `saltdelta_save` has `saveCheck` and `savedInto`. A refused one leaves record, report, settings and buffer as they
--- were lent: saltdelta/proofs/Kept.antt.
+-- were lent: saltdelta/proofs/Refusals.antt.
 -- `ourEquipment` is document 01's sensing rule and the Category III voltage regions. The words of the statements are defined in the crates
 -- `claims`, `rules`, `roots`, `formats` and `program`.
 -- Assumes nothing.
@@ -123,7 +123,7 @@ LinesOfForms = ReadsForms numbersOf
 
 -- Sample lines, `(at (CODE CODE CODE) FREQ PERMIT AVAILABLE LIMIT)`: `AnswersSamples` in formats/specs/Samples.antt. Seven numbers of at most
 -- six digits, written out and ended, are answered as the sample is. A line is refused with 8, and is no step, exactly when it is no such
--- line: unended, or with any other byte.
+-- line: unended, or another in any byte.
 abbrev pub SampleLinesAnswered : Type 0
 SampleLinesAnswered = AnswersSamples lineStep
 
