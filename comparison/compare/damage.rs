@@ -243,14 +243,16 @@ pub fn sample_lines(sink: Sink) {
     put(kind, "the sheet again".to_string(), sheet.clone() + LISTING + &sheet + LISTING, sink);
 }
 
-/// Lines of a megabyte and lines about as long as blocks, among good ones.
+/// Lines of a megabyte, lines about as long as blocks and as the 128 bytes that `board` keeps of a line, among good ones.
 pub fn long_lines(sink: Sink) {
     let kind = "long lines";
     let good = "(at (1000 1000 1000) 60000 1 10000 10000)";
-    let lengths = [40, 41, 42, 72, 73, 74, 75, 255, 256, 4095, 4096, 4097, 65535, 65536, 65537, 131072, 1_000_000, 1_048_576];
+    // A fill has one byte more; after the 41 bytes of a good sample, 84 to 88 make lines of 126 to 130.
+    let about_kept = [84, 85, 86, 87, 88, 125, 126, 127, 128, 129, 130];
+    let about_blocks = [40, 41, 42, 72, 73, 74, 75, 255, 256, 4095, 4096, 4097, 65535, 65536, 65537, 131072, 1_000_000, 1_048_576];
     for fill in [" ", "(", "0", "1", ")", "\0", "\r", "(at (1000 1000 1000) 60000 1 10000 10000)"] {
         let mut text = quick().text();
-        for length in lengths {
+        for length in about_kept.into_iter().chain(about_blocks) {
             let long = fill.repeat(length / fill.len() + 1);
             for line in [long.clone(), format!("{good}{long}"), format!("{}{long}", &good[..30]), format!("{long}{good}")] {
                 text += &format!("{good}\n{line}\n");

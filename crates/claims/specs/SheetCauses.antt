@@ -6,9 +6,9 @@ use mathlib.Core.Bool.{true, false, cond, not}
 use mathlib.Core.List.{List, [], _∷_, map}
 use mathlib.Core.Logic.{_↔_}
 use mathlib.Core.Option.{Option, none, some}
-use Prim.Native.Nat.{ℕ, zero, suc, _+_, _<_}
+use Prim.Native.Nat.{ℕ, zero, suc, _+_, _≤_, _<_}
 use lib.IntN.{ℤ}
-use lib.ListN.{getD}
+use lib.ListN.{length, getD, drop}
 use Rattle.rules.specs.Tests.{all}
 use Rattle.rules.specs.Text.{firstLine, hasFeed, afterLine}
 use Rattle.rules.specs.Forms.{sheetForms, numbersOf}
@@ -71,6 +71,10 @@ pub record SheetsRefusedRightly : Type 0 where
   pub settings : (s : List ℕ) → readSheet s .check ≡ SettingsCheck.Accepted
       → readSheet s .settings ≡ settingsOf (map (λ i. linePairs i s) (0 ∷ 1 ∷ 2 ∷ 3 ∷ 4 ∷ 5 ∷ 6 ∷ 7 ∷ 8 ∷ 9 ∷ 10 ∷ 11 ∷ 12 ∷ []))
   pub no-settings : (s : List ℕ) → 0 < settingsNumber (readSheet s .check) → readSheet s .settings ≡ settingsOf []
-  -- "hands back the refused line [..] without its line feed; a missing line is the empty part at the end"
+  -- "hands back the refused line as a part of the caller's own bytes, without its line feed; a missing line is the empty part at the end": the part
+  -- begins where the text has that line, which is inside it, and at the end where there is none (`IsPart` in sheet/specs/Parts.antt: in the caller's memory too)
+  pub place : (s : List ℕ) (i n : ℕ) → 0 < n → FirstCauseAt s i n → drop (readSheet s .start) s ≡ fromLine i s
+  pub inside : (s : List ℕ) → readSheet s .start ≤ length s
+  pub missing : (s : List ℕ) (i n : ℕ) → 0 < n → FirstCauseAt s i n → fromLine i s ≡ [] → readSheet s .start ≡ length s
   pub back : (s : List ℕ) (i n : ℕ) → 0 < n → FirstCauseAt s i n → handedBack s ≡ firstLine (fromLine i s)
   pub rest : (s : List ℕ) → readSheet s .check ≡ SettingsCheck.Accepted → handedBack s ≡ fromLine 13 s

@@ -9,14 +9,17 @@ use Rattle.laws.proofs.SheetCauses.{sheets-refused-rightly}
 use Rattle.laws.proofs.Demand2.{demand2, counter-rule}
 use Rattle.laws.proofs.Demand3.{demand3}
 use Rattle.formats.proofs.Sheets.{sheet-read-back, sheet-written-out, one-reading, default-written}
+use Rattle.formats.proofs.Forms.{forms-read}
+use Rattle.formats.proofs.SampleLines.{samples-answered, one-answer}
 use Rattle.formats.proofs.Samples.{sample-reads-back, sample-written-out}
 use Rattle.program.proofs.Sessions.{transcript-law}
-use Rattle.demands.specs.Demands.{OurRefusals, OurSheetRefusals, OurTranscript, OurTripAndReturn, OurTwoHistories, SheetsReadBack, SheetsWrittenOut, OneSheetReading, DefaultSheetWritten, UnderAcceptedTexts, SampleLinesReadBack, SampleLinesWrittenOut, AcceptedSamplesWritable, EveryCounter, SensingRule, StarredEdges, ShamsCaught, ShamImagesCaught, ShamReadingsCaught, AnyTripAndReturn, AnyTwoHistories, OurEquipmentSound}
+use Rattle.demands.specs.Demands.{OurRefusals, OurSheetRefusals, OurTranscript, OurTripAndReturn, OurTwoHistories, SheetsReadBack, SheetsWrittenOut, OneSheetReading, DefaultSheetWritten, UnderAcceptedTexts, LinesOfForms, SampleLinesAnswered, OneSampleAnswer, AcceptedSamplesWritable, SampleLinesReadBack, SampleLinesWrittenOut, EveryCounter, SensingRule, StarredEdges, ShamsCaught, ShamImagesCaught, ShamReadingsCaught, AnyTripAndReturn, AnyTwoHistories, OurEquipmentSound}
 use Rattle.demands.proofs.Edges.{edges-hold}
 use Rattle.demands.proofs.Writable.{accepted-writable}
 use Rattle.demands.proofs.Sound.{our-equipment-sound}
 use Rattle.demands.proofs.Shams.{early, invented, tripped, repeated, kept, refusing, no-ramp, no-ninth, no-bits}
 use Rattle.demands.proofs.ShamReadings.{turned-away, let-in}
+use Rattle.demands.proofs.ShamLines.{no-large, no-unended, no-return}
 
 pub ourRefusals : OurRefusals
 ourRefusals = refuses-rightly ourEquipment
@@ -50,14 +53,23 @@ underAcceptedTexts s e =
     let a = sheet-written-out s e .accepted in
     (ourTripAndReturn (readSheet s .settings) a, ourTwoHistories (readSheet s .settings) a)
 
+pub linesOfForms : LinesOfForms
+linesOfForms = forms-read
+
+pub sampleLinesAnswered : SampleLinesAnswered
+sampleLinesAnswered = samples-answered
+
+pub oneSampleAnswer : OneSampleAnswer
+oneSampleAnswer = one-answer
+
+pub acceptedSamplesWritable : AcceptedSamplesWritable
+acceptedSamplesWritable = accepted-writable
+
 pub sampleLinesReadBack : SampleLinesReadBack
 sampleLinesReadBack = sample-reads-back
 
 pub sampleLinesWrittenOut : SampleLinesWrittenOut
 sampleLinesWrittenOut = sample-written-out
-
-pub acceptedSamplesWritable : AcceptedSamplesWritable
-acceptedSamplesWritable = accepted-writable
 
 pub everyCounter : EveryCounter
 everyCounter = counter-rule
@@ -75,7 +87,7 @@ pub shamImagesCaught : ShamImagesCaught
 shamImagesCaught = record { ramp = no-ramp; ninth = no-ninth; bits = no-bits }
 
 pub shamReadingsCaught : ShamReadingsCaught
-shamReadingsCaught = record { turnedAway = turned-away; unended = let-in }
+shamReadingsCaught = record { turnedAway = turned-away; unended = let-in; large = no-large; unendedSample = no-unended; carriageReturn = no-return }
 
 pub anyTripAndReturn : AnyTripAndReturn
 anyTripAndReturn e sound = demand2 e sound

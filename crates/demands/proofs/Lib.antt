@@ -4,4 +4,5 @@ pub mod ShamReport
 pub mod Shams
 pub mod Writable
 pub mod ShamReadings
+pub mod ShamLines
 pub mod Demands

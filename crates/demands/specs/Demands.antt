@@ -4,29 +4,34 @@
 -- `stepOf ourEquipment` that of `service::step::step` (and of `host::step` on a lent record), `saveCheck` and `savedInto` those of
 -- `image::save` (and of `host::save`), `settingsCheck` that of `settings::check`, `sensed` that of `sensing::sense`, `readSheet` and `handedBack`
 -- those of `reader::read_sheet` (and of `sheet::read` and `sheet::part`), `respondOf ourEquipment` that of `respond::respond`. Each of those
--- contracts is proved in its crate for every record, settings, slice, code, buffer, state and text there can be. `ourEquipment` is
--- document 01's sensing rule and the Category III voltage regions. The words of the statements are defined in the crates `claims`,
--- `rules`, `formats` and `program`.
+-- contracts is proved in its crate for every record, settings, slice, code, buffer, state and text there can be.
+-- The exported functions, for C and Rust, promise the same words: `saltdelta_fresh` gives `fresh`; the number, record and report of
+-- `saltdelta_step` are those of `stepOf ourEquipment`, the answer and settings of `saltdelta_read_sheet` those of `readSheet` and `handedBack`
+-- (saltdelta/specs/Answers.antt); `saltdelta_save` has `saveCheck` and `savedInto`. A refused one leaves record, report, settings and buffer as they
+-- were lent: saltdelta/proofs/Refusals.antt.
+-- `ourEquipment` is document 01's sensing rule and the Category III voltage regions. The words of the statements are defined in the crates
+-- `claims`, `rules`, `roots`, `formats` and `program`.
 -- Assumes nothing.
 use mathlib.Core.Path.{_≡_}
 use mathlib.Core.Bool.{true}
 use mathlib.Core.List.{List, _∷_}
-use mathlib.Core.Option.{some}
 use Prim.Native.Nat.{ℕ, _*_, _≤_}
-use lib.IntN.{ℤ}
 use Rattle.rules.specs.Sensing.{lastCode, voltage}
 use Rattle.rules.specs.Samples.{Slice, Equipment, sampleAccepted}
 use Rattle.rules.specs.Counters.{Rule}
 use Rattle.rules.specs.Regions.{ourEquipment}
 use Rattle.rules.specs.History.{historyReport}
 use Rattle.rules.specs.Images.{savedInto}
-use Rattle.rules.specs.Forms.{sampleForm, numbersOf}
+use Rattle.rules.specs.Forms.{numbersOf}
 use Rattle.rules.specs.Sheets.{SheetReading, readSheet}
 use Rattle.rules.specs.Defaults.{defaultSheet, defaultSettings}
-use Rattle.rules.specs.Transcripts.{Line, ended, linesIn}
+use Rattle.rules.specs.Transcripts.{Line, ended, linesIn, lineStep}
+use Rattle.rules.specs.declared.Settings.{Settings}
+use Rattle.rules.specs.declared.Board.{Board}
 use Rattle.rules.specs.declared.SettingsCheck.{SettingsCheck}
 use Rattle.formats.specs.Sheets.{writtenSheet, ReadsSheetsBack, AcceptsSheetsOnly, AcceptAlike}
-use Rattle.formats.specs.Samples.{writable, ReadsBack, BeginsWithSample}
+use Rattle.formats.specs.Marks.{ReadsForms}
+use Rattle.formats.specs.Samples.{writable, writtenSample, Answering, AnswersSamples, ReadsBack, BeginsWithSample}
 use Rattle.roots.specs.Root.{IsRoot}
 use Rattle.program.specs.Sessions.{TranscriptLaw}
 use Rattle.claims.specs.Calls.{Program, ruledBy}
@@ -36,7 +41,7 @@ use Rattle.claims.specs.SheetCauses.{SheetsRefusedRightly}
 use Rattle.claims.specs.TripAndReturn.{TripAndReturn, CounterRule, Demand2}
 use Rattle.claims.specs.TwoHistories.{TwoHistoriesBy, Demand3}
 use Rattle.demands.specs.Edges.{EdgesHold}
-use Rattle.demands.specs.Shams.{exampleSheet, tripsEarly, inventsCounters, alwaysTripped, repeatsFirst, keepsRecord, turnsAway, savedWithoutRamp, savedWithoutNinth, reportWithoutBits, refusesNoWait, takesUnended}
+use Rattle.demands.specs.Shams.{exampleSheet, tripsEarly, inventsCounters, alwaysTripped, repeatsFirst, keepsRecord, turnsAway, savedWithoutRamp, savedWithoutNinth, reportWithoutBits, refusesNoWait, takesUnended, largeNoNumber, stepsUnended, stepsPastReturn}
 
 abbrev pub ours : Program
 ours = ruledBy ourEquipment
@@ -52,7 +57,7 @@ OurRefusals = RefusesRightly ourEquipment
 
 -- Demand 1, for reading a sheet: `SheetsRefusedRightly` in claims/specs/SheetCauses.antt. Any text is refused with n at a line exactly when that is the
 -- first line with a cause and n the first of its causes 1, 2, 3, and accepted exactly when none of the thirteen lines has a cause; what is
--- handed back is that line of the text, or what follows an accepted sheet.
+-- handed back is that line of the text, at its place there, a missing one at the end, or what follows an accepted sheet.
 abbrev pub OurSheetRefusals : Type 0
 OurSheetRefusals = SheetsRefusedRightly
 
@@ -110,20 +115,35 @@ UnderAcceptedTexts =
     (s : List ℕ) → readSheet s .check ≡ SettingsCheck.Accepted
     → TripAndReturn ourEquipment ours (readSheet s .settings) × TwoHistoriesBy savedInto (historyReport ourEquipment) ours (readSheet s .settings)
 
--- The same of sample lines, `(at (CODE CODE CODE) FREQ PERMIT AVAILABLE LIMIT)`: `ReadsBack` and `BeginsWithSample` in
--- formats/specs/Samples.antt. A sample of seven numbers of at most six digits, written out with its line feed, is the first line of the
--- text that it begins, whatever follows, and that line is answered as the sample is. A text whose first line is ended and of the form
--- begins with such a writing-out of its numbers. And every sample that none of 8, 4, 5, 6, 7 refuses can be written so.
+-- The forms of the lines, which tell 1 from 2 and 3: `ReadsForms` in formats/specs/Marks.antt, of the sheet's thirteen forms and the sample's. A
+-- line has its form, with these numbers, exactly when it is the form with these numbers in the marks' places: numbers of 1 to 6 digits without
+-- leading zeros, a minus only before a nonzero number at `~`.
+abbrev pub LinesOfForms : Type 0
+LinesOfForms = ReadsForms numbersOf
+
+-- Sample lines, `(at (CODE CODE CODE) FREQ PERMIT AVAILABLE LIMIT)`: `AnswersSamples` in formats/specs/Samples.antt. Seven numbers of at most
+-- six digits, written out and ended, are answered as the sample is. A line is refused with 8, and is no step, exactly when it is no such
+-- line: unended, or another in any byte.
+abbrev pub SampleLinesAnswered : Type 0
+SampleLinesAnswered = AnswersSamples lineStep
+
+-- So there is no choice in the answers either.
+abbrev pub OneSampleAnswer : Type 0
+OneSampleAnswer =
+    (answer : Answering) → AnswersSamples answer → (e : Equipment) (st : Settings) (b : Board) (l : Line) → answer e st b l ≡ lineStep e st b l
+
+-- And every sample that none of 8, 4, 5, 6, 7 refuses can be written so.
+abbrev pub AcceptedSamplesWritable : Type 0
+AcceptedSamplesWritable = (x : Slice) → sampleAccepted x ≡ true → writable x ≡ true
+
+-- Where sample lines stand in a text: `ReadsBack` and `BeginsWithSample` in formats/specs/Samples.antt. A sample written out, with its line feed, is
+-- the first line of the text that it begins, whatever follows; and a text with that first line begins so.
 abbrev pub SampleLinesReadBack : Type 0
 SampleLinesReadBack = (x : Slice) (after : List ℕ) → writable x ≡ true → ReadsBack x after
 
 abbrev pub SampleLinesWrittenOut : Type 0
 SampleLinesWrittenOut =
-    (s line : List ℕ) (lines : List Line) (ns : List ℤ) → linesIn s ≡ ended line ∷ lines → numbersOf sampleForm line ≡ some ns
-    → BeginsWithSample s ns lines
-
-abbrev pub AcceptedSamplesWritable : Type 0
-AcceptedSamplesWritable = (x : Slice) → sampleAccepted x ≡ true → writable x ≡ true
+    (s : List ℕ) (x : Slice) (lines : List Line) → linesIn s ≡ ended (writtenSample x) ∷ lines → BeginsWithSample s x lines
 
 -- ---- beside them
 
@@ -158,10 +178,14 @@ pub record ShamImagesCaught : Type 0 where
   pub bits : ¬ TwoHistoriesBy savedInto reportWithoutBits ours (exampleSheet 0)
 
 -- A reading that refuses a wait of 0 turns away document 01's example sheet, and one that takes a sheet whose last line is unended
--- accepts more than sheets.
+-- accepts more than sheets. One that finds no form in a line with a number above 100000 would give 1 in place of 2. Answers that step on an
+-- unended sample line, or on one with a carriage return before its line feed, take more than samples.
 pub record ShamReadingsCaught : Type 0 where
   pub turnedAway : ¬ ReadsSheetsBack refusesNoWait
   pub unended : ¬ AcceptsSheetsOnly takesUnended
+  pub large : ¬ ReadsForms largeNoNumber
+  pub unendedSample : ¬ AnswersSamples stepsUnended
+  pub carriageReturn : ¬ AnswersSamples stepsPastReturn
 
 -- ---- wider than asked: any sensing table and any voltage regions with the facts of `Sound`, which ours have
 

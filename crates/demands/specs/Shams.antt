@@ -1,14 +1,16 @@
 -- Document 01, "What a contract says of the board": the sham boards that demand 2 must stop; sham images and reports that demand 3 must
--- stop; and sham readings of sheets.
+-- stop; sham readings of sheets and of lines; and sham answers to sample lines.
 -- Assumes nothing.
 use mathlib.Core.Bool.{Bool, false, cond, _&&_}
 use mathlib.Core.List.{List, [], _∷_, _++_, map}
+use mathlib.Core.Option.{Option, none, some}
 use Prim.Native.Nat.{ℕ, _*_, _/_}
 use lib.Dec.{eqb, leb}
-use lib.IntN.{ℤ, pos, negℤ}
+use lib.IntN.{ℤ, pos, natAbs, negℤ}
 use lib.ListN.{replicate, set, take}
 use Rattle.rules.specs.Tests.{all, any}
 use Rattle.rules.specs.Text.{feed}
+use Rattle.rules.specs.Forms.{numbersOf}
 use Rattle.rules.specs.Sheets.{SheetReading, refusedAt, readSheet}
 use Rattle.rules.specs.Samples.{Slice}
 use Rattle.rules.specs.Regions.{ourEquipment}
@@ -17,6 +19,7 @@ use Rattle.rules.specs.History.{History, historyReport}
 use Rattle.rules.specs.Images.{savedInto}
 use Rattle.rules.specs.Service.{inService}
 use Rattle.rules.specs.Records.{fresh, settled, shown, stepOf}
+use Rattle.rules.specs.Transcripts.{Line, ended, unended, lineStep}
 use Rattle.rules.specs.declared.Limit.{Limit}
 use Rattle.rules.specs.declared.Point.{Point}
 use Rattle.rules.specs.declared.Settings.{Settings}
@@ -24,6 +27,7 @@ use Rattle.rules.specs.declared.Board.{Board}
 use Rattle.rules.specs.declared.Refusal.the-variants.{Range, Code}
 use Rattle.rules.specs.declared.Answer.{Answer}
 use Rattle.rules.specs.declared.Stepped.{Stepped}
+use Rattle.formats.specs.Samples.{Answering}
 use Rattle.claims.specs.Calls.{Program}
 
 -- document 01's default sheet with `(enter (wait W 100))`
@@ -147,3 +151,39 @@ refusesNoWait s = cond (eqb (readSheet s .settings .wait) 0) (refusedAt Range 11
 -- it takes a sheet whose last line is unended
 unfoldable pub takesUnended : List ℕ → SheetReading
 takesUnended s = readSheet (s ++ (feed ∷ []))
+
+-- ---- a sham reading of lines by their forms
+
+abbrev unlessLarge : Option (List ℤ) → Option (List ℤ)
+unlessLarge none = none
+unlessLarge (some ns) = cond (all (map (λ n. leb (natAbs n) 100000) ns)) (some ns) none
+
+-- a line with a number above 100000, which no row allows, has not its form: 1 in place of 2
+unfoldable pub largeNoNumber : List ℕ → List ℕ → Option (List ℤ)
+largeNoNumber form line = unlessLarge (numbersOf form line)
+
+-- ---- sham answers to sample lines
+
+-- it takes a last sample whose line is unended
+abbrev asEnded : Line → Line
+asEnded (ended s) = ended s
+asEnded (unended s) = ended s
+
+unfoldable pub stepsUnended : Answering
+stepsUnended e st b l = lineStep e st b (asEnded l)
+
+-- it takes a sample line with a carriage return before its line feed
+abbrev carriageReturn : ℕ
+carriageReturn = 13
+
+unfoldable pub withoutReturn : List ℕ → List ℕ
+withoutReturn [] = []
+withoutReturn (c ∷ []) = cond (eqb c carriageReturn) [] (c ∷ [])
+withoutReturn (c ∷ d ∷ s) = c ∷ withoutReturn (d ∷ s)
+
+abbrev cleaned : Line → Line
+cleaned (ended s) = ended (withoutReturn s)
+cleaned (unended s) = unended s
+
+unfoldable pub stepsPastReturn : Answering
+stepsPastReturn e st b l = lineStep e st b (cleaned l)

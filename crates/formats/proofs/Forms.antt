@@ -2,17 +2,18 @@
 -- Assumes nothing.
 use mathlib.Core.Path.{_≡_, refl, sym, ap, _∙_}
 use mathlib.Core.Bool.{Bool, true, false, cond, not, _&&_, _||_, false≢true, true≢false}
-use mathlib.Core.List.{List, [], _∷_}
+use mathlib.Core.List.{List, [], _∷_, map}
 use mathlib.Core.Option.{Option, none, some, Option·some-injective, Option·none-ne-some}
-use Prim.Native.Nat.{ℕ, suc, _+_, _*_, _≤_}
+use Prim.Native.Nat.{ℕ, zero, suc, _+_, _*_, _≤_}
 use native.Mathlib.Omega.{arith}
 use borrow.Author.Tests.{eqb-true, eq-eqb, leb-true, not-true}
 use lib.Dec.{leb, eqb}
 use lib.IntN.{ℤ, pos, negsuc}
-use lib.ListN.{length, length-append}
+use lib.ListN.{length, getD, length-append}
+use Rattle.rules.specs.Tests.{all, within}
 use Rattle.rules.specs.Text.{isDigit, decimal, signedDecimal, Taken, takeNumber, takeSigned}
-use Rattle.rules.specs.Forms.{numberMark, signedMark, andThen, onTaken, onByte, numbersOf}
-use Rattle.formats.specs.Marks.{isMark, marks, takeMarked, numberThen, written, fits, fitsThen, suits}
+use Rattle.rules.specs.Forms.{numberMark, signedMark, sheetForms, sampleForm, andThen, onTaken, onByte, numbersOf}
+use Rattle.formats.specs.Marks.{isMark, marks, takeMarked, numberThen, written, fits, fitsThen, suits, IsLine, lineForms, lineForm, ReadsForms}
 use Rattle.formats.proofs.Digits.{both, NoDigit, empty, other}
 use Rattle.formats.proofs.Numbers.{decimal-length, marked-written, written-marked}
 
@@ -42,10 +43,6 @@ numbers-byte mark form s m = by-mark (eqb mark numberMark) (eqb mark signedMark)
     by-mark false false m = refl
 
 -- ---- a line that has a form is written out
-
-pub record IsLine (form s : List ℕ) (ns : List ℤ) : Type 0 where
-  pub text : s ≡ written form ns
-  pub suit : suits form ns ≡ true
 
 -- the rest of the line is written out, by what is known of the rest of the form
 abbrev Rest : List ℕ → Type 0
@@ -132,6 +129,24 @@ written-read (mark ∷ form) ns p f = by-mark (isMark mark) refl p f (written-re
         numbers-marked mark form (numberThen ns (written form)) m
         ∙ marked-read mark form ns m (apart .0) f (λ xs. rest xs (apart .1))
     by-mark false m p f rest = rw (numbers-byte mark form (mark ∷ written form ns) m, eq-eqb mark mark refl) (rest ns p f)
+
+-- ---- the fourteen forms
+
+apart-at : (forms : List (List ℕ)) (i : ℕ) → all (map separated forms) ≡ true → separated (getD forms i []) ≡ true
+unfolding all separated
+apart-at [] i e = refl
+apart-at (form ∷ forms) zero e = both (separated form) (all (map separated forms)) e .0
+apart-at (form ∷ forms) (suc i) e = apart-at forms i (both (separated form) (all (map separated forms)) e .1)
+
+all-apart : all (map separated lineForms) ≡ true
+unfolding all within lineForms sheetForms sampleForm separated
+all-apart = refl
+
+pub forms-read : ReadsForms numbersOf
+forms-read i h line ns = (
+  line-written (lineForm i) line ns,
+  λ l. ap (numbersOf (lineForm i)) (l .text) ∙ written-read (lineForm i) ns (apart-at lineForms i all-apart) (l .suit),
+)
 
 -- ---- how many numbers a form has, and how long its lines are
 

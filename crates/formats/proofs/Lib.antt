@@ -4,6 +4,7 @@ pub mod Numbers
 pub mod Forms
 pub mod Feeds
 pub mod Samples
+pub mod SampleLines
 pub mod Rows
 pub mod Lines
 pub mod Settings

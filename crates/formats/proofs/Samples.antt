@@ -14,7 +14,7 @@ use lib.ListN.{length, length-map}
 use Rattle.rules.specs.Tests.{all, within}
 use Rattle.rules.specs.Text.{feed, hasFeed}
 use Rattle.rules.specs.Samples.{Slice}
-use Rattle.rules.specs.Transcripts.{Line, ended, linesAfter, linesIn, lineStep}
+use Rattle.rules.specs.Transcripts.{Line, ended, linesAfter, linesIn}
 use Rattle.rules.specs.Forms.{signedMark, sampleForm, numbersOf}
 use Rattle.formats.specs.Marks.{isMark, marks, fits, fitsThen, suits}
 use Rattle.formats.specs.Samples.{sixDigits, writable, writtenSample, ReadsBack, BeginsWithSample}
@@ -141,10 +141,6 @@ is-first before (b ∷ s) line lines e = by-test (eqb b feed) refl e (λ k. is-f
 
 -- ---- sample lines of a text
 
-numbers-same : (x : List ℕ) → map natAbs (map pos x) ≡ x
-numbers-same [] = refl
-numbers-same (n ∷ x) = ap (λ (k : List ℕ). n ∷ k) (numbers-same x)
-
 sample-plain : (x : List ℕ) → writable x ≡ true → hasFeed (writtenSample x) ≡ false
 unfolding writtenSample sampleForm marks hasFeed
 sample-plain x w =
@@ -152,24 +148,10 @@ sample-plain x w =
     written-plain sampleForm (map pos x) refl (all-suit sampleForm x (eqb-true (length x) 7 (tests .0)) (tests .1))
 
 pub sample-reads-back : (x : Slice) (after : List ℕ) → writable x ≡ true → ReadsBack x after
-unfolding lineStep
-sample-reads-back x after w =
-    record {
-      line = plain-first (writtenSample x) after (sample-plain x w);
-      step = λ e st b. rw (sample-read x w, numbers-same x);
-    }
+sample-reads-back x after w = plain-first (writtenSample x) after (sample-plain x w)
 
-pub sample-written-out : (s line : List ℕ) (lines : List Line) (ns : List ℤ) → linesIn s ≡ ended line ∷ lines → numbersOf sampleForm line ≡ some ns
-    → BeginsWithSample s ns lines
+pub sample-written-out : (s : List ℕ) (x : Slice) (lines : List Line) → linesIn s ≡ ended (writtenSample x) ∷ lines → BeginsWithSample s x lines
 unfolding linesIn
-sample-written-out s line lines ns p e =
-    let w = sample-written line ns e in
-    let f = is-first [] s line lines p in
-    record {
-      sample = w .sample;
-      can = w .can;
-      numbers = w .numbers;
-      after = f .after;
-      text = f .text ∙ ap (λ (k : List ℕ). k ++ (feed ∷ f .after)) (sym (f .whole) ∙ w .text);
-      others = f .others;
-    }
+sample-written-out s x lines p =
+    let f = is-first [] s (writtenSample x) lines p in
+    record { after = f .after; text = f .text ∙ ap (λ (k : List ℕ). k ++ (feed ∷ f .after)) (sym (f .whole)); others = f .others }

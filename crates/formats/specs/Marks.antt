@@ -1,13 +1,17 @@
--- Document 01, "The sheet" and "Image and program": a form's marks, the numbers that they stand for, and a line written out.
+-- Document 01, "The sheet" and "Image and program": a form's marks, the numbers that they stand for, a line written out, and what a line
+-- of a form is.
 -- Assumes nothing.
+use mathlib.Core.Path.{_≡_}
 use mathlib.Core.Bool.{Bool, true, false, cond, _&&_, _||_}
 use mathlib.Core.List.{List, [], _∷_, _++_}
-use mathlib.Core.Option.{Option}
-use Prim.Native.Nat.{ℕ, zero, suc}
+use mathlib.Core.Logic.{_↔_}
+use mathlib.Core.Option.{Option, some}
+use Prim.Native.Nat.{ℕ, zero, suc, _<_}
 use lib.Dec.{eqb, leb}
 use lib.IntN.{ℤ, pos, negsuc}
+use lib.ListN.{getD}
 use Rattle.rules.specs.Text.{Taken, takeNumber, takeSigned, signedDecimal}
-use Rattle.rules.specs.Forms.{numberMark, signedMark}
+use Rattle.rules.specs.Forms.{numberMark, signedMark, sheetForms, sampleForm}
 
 -- a byte of a form that stands for a number
 abbrev pub isMark : ℕ → Bool
@@ -48,3 +52,21 @@ unfoldable pub suits : List ℕ → List ℤ → Bool
 suits [] [] = true
 suits [] (n ∷ ns) = false
 suits (mark ∷ form) ns = cond (isMark mark) (fitsThen mark ns (suits form)) (suits form ns)
+
+-- ---- a line of a form, without a parser
+
+-- the line is the form with numbers that suit it in the places of its marks
+pub record IsLine (form line : List ℕ) (ns : List ℤ) : Type 0 where
+  pub text : line ≡ written form ns
+  pub suit : suits form ns ≡ true
+
+-- the fourteen forms: the sheet's thirteen, and the sample's
+unfoldable pub lineForms : List (List ℕ)
+lineForms = sheetForms ++ (sampleForm ∷ [])
+
+abbrev pub lineForm : ℕ → List ℕ
+lineForm i = getD lineForms i []
+
+-- what is asked of a reading of lines by their forms: it finds numbers exactly in the lines that are the form with these numbers
+abbrev pub ReadsForms : (List ℕ → List ℕ → Option (List ℤ)) → Type 0
+ReadsForms read = (i : ℕ) → i < 14 → (line : List ℕ) (ns : List ℤ) → (read (lineForm i) line ≡ some ns) ↔ IsLine (lineForm i) line ns

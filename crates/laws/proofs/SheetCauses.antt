@@ -1,7 +1,7 @@
 -- Reading a sheet refuses with the first cause of the first line that has one, and accepts where no line has.
 -- Assumes nothing.
 use mathlib.Core.Path.{_≡_, refl, sym, ap, _∙_, subst}
-use mathlib.Core.Bool.{Bool, true, false, cond, not}
+use mathlib.Core.Bool.{Bool, true, false, cond, not, _||_, false≢true}
 use mathlib.Core.List.{List, [], _∷_, _++_, map, append-assoc, append-nil}
 use mathlib.Core.Logic.{_⊎_, inl, inr, ⊎-elim, _↔_}
 use mathlib.Core.Option.{Option, none, some}
@@ -12,12 +12,12 @@ use native.Mathlib.Numerals.{add-one}
 use native.Mathlib.Omega.{arith}
 use lib.Dec.{eqb}
 use lib.IntN.{ℤ}
-use lib.ListN.{length, drop}
+use lib.ListN.{length, drop, length-drop}
 use lib.Seq.{drop-drop}
 use Rattle.rules.specs.Tests.{all}
 use Rattle.rules.specs.Text.{feed, firstLine, hasFeed, afterLine}
 use Rattle.rules.specs.Forms.{sheetForms, numbersOf}
-use Rattle.rules.specs.Settings.{Pair, Row, rows, inRow, rising}
+use Rattle.rules.specs.Settings.{Pair, Row, rows, inRow, rising, lineCheck}
 use Rattle.rules.specs.Refusals.{refusalNumber, settingsNumber}
 use Rattle.rules.specs.Sheets.{SheetReading, pairs, settingsOf, refusedAt, onNumbers, readFrom, readSheet, partOf, handedBack}
 use Rattle.rules.specs.declared.Refusal.{Refusal}
@@ -36,6 +36,48 @@ after-drop (b ∷ t) = by-test (eqb b feed) (after-drop t)
     by-test : (a : Bool) → drop (length (firstLine t) + 1) t ≡ afterLine t → drop (length (cond a [] (b ∷ firstLine t)) + 1) (b ∷ t) ≡ cond a t (afterLine t)
     by-test true e = refl
     by-test false e = ap (λ (k : ℕ). drop k (b ∷ t)) (add-one (suc (length (firstLine t))) ∙ ap suc (sym (add-one (length (firstLine t))))) ∙ e
+
+after-length : (t : List ℕ) → hasFeed t ≡ true → length (firstLine t) + 1 + length (afterLine t) ≡ length t
+unfolding firstLine hasFeed afterLine
+after-length [] f = absurd (false≢true f)
+after-length (b ∷ t) f = by (eqb b feed) f (after-length t)
+  where
+    by : (a : Bool) → (a || hasFeed t) ≡ true → (hasFeed t ≡ true → length (firstLine t) + 1 + length (afterLine t) ≡ length t)
+        → length (cond a [] (b ∷ firstLine t)) + 1 + length (cond a t (afterLine t)) ≡ suc (length t)
+    by true f rest = omega arith
+    by false f rest = omega (arith, rest f)
+
+-- ---- a reading ends inside its text
+
+module _ (n start : ℕ) (r : Row) (t : List ℕ) (next : List Pair → SheetReading)
+    (ih : hasFeed t ≡ true → (ps : List Pair) → next ps .start ≤ start + length t) where
+  checked-inside : (ps : List Pair) → next ps .start ≤ start + length t → lineCheck r ps (next ps) (λ cause. refusedAt cause n start) .start ≤ start + length t
+  checked-inside ps h = by (all (map (inRow r) ps)) (rising ps)
+    where
+      by : (a b : Bool) → cond a (cond b (next ps) (refusedAt Rise n start)) (refusedAt Range n start) .start ≤ start + length t
+      by true true = h
+      by true false = omega arith
+      by false b = omega arith
+
+  line-inside : (o : Option (List ℤ)) → cond (hasFeed t) (onNumbers n start r o next) (refusedAt Form n start) .start ≤ start + length t
+  line-inside o = by (hasFeed t) refl o
+    where
+      by : (f : Bool) → hasFeed t ≡ f → (o : Option (List ℤ)) → cond f (onNumbers n start r o next) (refusedAt Form n start) .start ≤ start + length t
+      by false f o = omega arith
+      by true f none = omega arith
+      by true f (some ns) = checked-inside (pairs ns) (ih f (pairs ns))
+
+ends-inside : (n start : ℕ) (read : List (List Pair)) (rs : List Row) (forms : List (List ℕ)) (t : List ℕ) → readFrom n start read rs forms t .start ≤ start + length t
+unfolding readFrom
+ends-inside n start read [] forms t = omega arith
+ends-inside n start read (r ∷ rs) [] t = omega arith
+ends-inside n start read (r ∷ rs) (form ∷ forms) t =
+    line-inside n start r t _ (λ f ps. later f ps (ends-inside (suc n) (start + length (firstLine t) + 1) (read ++ (ps ∷ [])) rs forms (afterLine t))) (numbersOf form (firstLine t))
+  where
+    later : hasFeed t ≡ true → (ps : List Pair)
+        → readFrom (suc n) (start + length (firstLine t) + 1) (read ++ (ps ∷ [])) rs forms (afterLine t) .start ≤ start + length (firstLine t) + 1 + length (afterLine t)
+        → readFrom (suc n) (start + length (firstLine t) + 1) (read ++ (ps ∷ [])) rs forms (afterLine t) .start ≤ start + length t
+    later f ps h = omega (arith, h, after-length t f)
 
 -- ---- a reading, by lines
 
@@ -242,13 +284,30 @@ module _ (s : List ℕ) where
   no-settings : 0 < settingsNumber (readSheet s .check) → readSheet s .settings ≡ settingsOf []
   no-settings h = ⊎-elim (λ x. ap (λ (r : SheetReading). r .settings) (x .reading)) (λ x. absurd (omega (arith, h, ap settingsNumber (accepted x)))) reads
 
-  back : (i n : ℕ) → 0 < n → FirstCauseAt s i n → handedBack s ≡ firstLine (fromLine i s)
-  unfolding handedBack
-  back i n h f =
+  place : (i n : ℕ) → 0 < n → FirstCauseAt s i n → drop (readSheet s .start) s ≡ fromLine i s
+  place i n h f =
       ⊎-elim
-      (λ x. ap (λ (r : SheetReading). partOf (r .check) (drop (r .start) s)) (x .reading) ∙ ap firstLine (x .place) ∙ ap (λ (k : ℕ). firstLine (fromLine k s)) (unique x i n h f))
+      (λ x. ap (λ (r : SheetReading). drop (r .start) s) (x .reading) ∙ x .place ∙ ap (λ (k : ℕ). fromLine k s) (unique x i n h f))
       (λ x. absurd (none-found x i n h f))
       reads
+
+  inside : readSheet s .start ≤ length s
+  unfolding readSheet
+  inside = omega (arith, ends-inside 1 0 [] rows sheetForms s)
+
+  missing : (i n : ℕ) → 0 < n → FirstCauseAt s i n → fromLine i s ≡ [] → readSheet s .start ≡ length s
+  missing i n h f e = omega (arith, inside, sym (length-drop (readSheet s .start) s) ∙ ap length (place i n h f ∙ e))
+
+  refused-part : 0 < settingsNumber (readSheet s .check) → handedBack s ≡ firstLine (drop (readSheet s .start) s)
+  unfolding handedBack
+  refused-part h = by (readSheet s .check) h
+    where
+      by : (c : SettingsCheck) → 0 < settingsNumber c → partOf c (drop (readSheet s .start) s) ≡ firstLine (drop (readSheet s .start) s)
+      by SettingsCheck.Accepted k = absurd (omega (arith, k))
+      by (SettingsCheck.Refused cause line) k = refl
+
+  back : (i n : ℕ) → 0 < n → FirstCauseAt s i n → handedBack s ≡ firstLine (fromLine i s)
+  back i n h f = refused-part (omega (arith, h, refuses i n h .1 f .0)) ∙ ap firstLine (place i n h f)
 
   rest : readSheet s .check ≡ SettingsCheck.Accepted → handedBack s ≡ fromLine 13 s
   unfolding handedBack
@@ -259,4 +318,4 @@ module _ (s : List ℕ) where
       reads
 
 pub sheets-refused-rightly : SheetsRefusedRightly
-sheets-refused-rightly = record { refuses = refuses; accepts = accepts; settings = settings; no-settings = no-settings; back = back; rest = rest }
+sheets-refused-rightly = record { refuses = refuses; accepts = accepts; settings = settings; no-settings = no-settings; place = place; inside = inside; missing = missing; back = back; rest = rest }

@@ -1,3 +1,4 @@
 pub mod Answering
 pub mod Data
 pub mod InPlace
+pub mod Refusals
