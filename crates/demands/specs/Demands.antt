@@ -64,8 +64,9 @@ OurSheetRefusals = SheetsRefusedRightly
 -- Demand 1, for the program: `TranscriptLaw` in program/specs/Sessions.antt. However an input is cut into blocks, and whatever buffers are lent,
 -- what `respond` writes, put together, is the transcript of the input's first 10^12 bytes (rules/specs/Transcripts.antt): a sheet's first
 -- refusal with its line, ending all; or an answer for each line after the sheet, refusals with their line numbers, an unended last
--- line and lines of any length among them. It gets to the end: a whole line at hand, with room for one, is taken; and once the input has
--- ended, as many calls as there are bytes left, and one, finish.
+-- line and lines of any length among them. A call handles as many lines as are there and fit, and leaves no more bytes of a begun line than
+-- the longest form has; among the samples it writes the answers to the lines that it takes, then and there; a refused sheet ends all
+-- as soon as its line has its line feed; and once the input has ended, as many calls as there are bytes left, and one, finish.
 abbrev pub OurTranscript : Type 0
 OurTranscript = TranscriptLaw ourEquipment
 

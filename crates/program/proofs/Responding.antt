@@ -9,10 +9,10 @@ use native.Mathlib.Omega.{arith}
 use borrow.Author.Tests.{leb-true, leb-false, le-ltb}
 use lib.Dec.{leb, ltb}
 use lib.ListN.{length, take, drop, length-take}
-use lib.Seq.{take-nil, take-all}
+use lib.Seq.{take-nil, take-all, take-take}
 use Rattle.rules.specs.Samples.{Equipment}
 use Rattle.rules.specs.Text.{firstLine, hasFeed, afterLine}
-use Rattle.rules.specs.Transcripts.{linesIn, inputEnd}
+use Rattle.rules.specs.Transcripts.{linesIn, answersFrom, inputEnd}
 use Rattle.program.specs.States.{Fit, isDone, stopped, readState}
 use Rattle.program.specs.Saying.{Said, said, resume}
 use Rattle.program.specs.Responses.{lineRoom, longest, stops, andSaid, closed, dropped, handled, budget, respondOf}
@@ -20,6 +20,8 @@ use Rattle.program.specs.declared.State.{State}
 use Rattle.program.proofs.Cuts.{take-both, rest-cut}
 use Rattle.program.proofs.Fitting.{fit-less, fit-read}
 use Rattle.program.proofs.Resuming.{said-taken}
+use Rattle.program.proofs.Answering.{answers}
+use Rattle.program.proofs.Transcripts.{sampling}
 use Rattle.program.proofs.Ending.{doneAfter}
 use Rattle.program.proofs.Handling.{Keeps, keeps, Settled, settled, fits, handled-fed, handled-unfed, handled-stops}
 
@@ -150,3 +152,20 @@ module _ (e : Equipment) (q : State) (block : List ℕ) (last : Bool) (size : �
       by-done false p false r true t = absurd (false≢true (sym going ∙ tail-closed p roomy r t))
       by-done false p false r false t =
           omega (arith, left-short going (omega (arith, ap length (quiet r t))), ap (λ (n : ℕ). length (drop n block)) none)
+
+  -- ---- among the samples
+
+  module _ (samples : q .phase ≡ 1) (whole : q .long ≡ false) (left-whole : answer .state .long ≡ false) where
+    q-is : q ≡ sampling (q .settings) (q .board) (q .line) (q .taken)
+    q-is =
+        ap₂ (λ (p : ℕ) (l : Bool). record { phase = p; line = q .line; long = l; taken = q .taken; settings = q .settings; board = q .board }) samples whole
+
+    answer-there : answer ≡ handled e ends size (record { state = sampling (q .settings) (q .board) (q .line) (q .taken); text = [] }) (linesIn s)
+    answer-there = answer-is ∙ ap (λ (k : State). handled e ends size (record { state = k; text = [] }) (linesIn s)) q-is
+
+    pub answers-taken : answer .text ≡ answersFrom e (q .settings) (q .board) (q .line) (linesIn (take (answer .state .taken - q .taken) block))
+    answers-taken =
+        let k = kept [] (λ p. refl) in
+        let got : answer .text ≡ answersFrom e (q .settings) (q .board) (q .line) (linesIn (take (answer .state .taken - q .taken) s))
+        = subst (λ (a : Said). a .state .long ≡ false → a .text ≡ answersFrom e (q .settings) (q .board) (q .line) (linesIn (take (a .state .taken - q .taken) s))) (sym answer-there) (answers e (q .settings) ends size (q .board) (q .line) (q .taken) s) left-whole in
+        got ∙ ap (λ (l : List ℕ). answersFrom e (q .settings) (q .board) (q .line) (linesIn l)) (take-take (answer .state .taken - q .taken) (budget q) block (omega (arith, k .high, s-length)))

@@ -22,7 +22,7 @@ use Rattle.program.proofs.Resuming.{done-resume}
 use Rattle.program.proofs.Ending.{doneAfter, done-unfed}
 use Rattle.program.proofs.Framing.{plain-cut}
 use Rattle.program.proofs.Transcripts.{resume-start, known-ends}
-use Rattle.program.proofs.Responding.{s, ends, fit-after, says, finishes, left-unfed, left-short, taken-low, taken-high, done-stays, line-taken, tail-closed}
+use Rattle.program.proofs.Responding.{s, ends, fit-after, says, finishes, answers-taken, left-unfed, left-short, taken-low, taken-high, done-stays, line-taken, tail-closed}
 
 module _ (e : Equipment) where
   -- what is to be said of the input that is left
@@ -161,6 +161,7 @@ module _ (e : Equipment) where
         progress = λ q block last size fit going roomy fed. line-taken e q block last size (sensible-fit q fit) going roomy fed;
         handles = λ q block last size fit going room.
             (left-unfed e q block last size (sensible-fit q fit) going room, left-short e q block last size (sensible-fit q fit) going room);
+        answers = λ q block last size fit samples whole left. answers-taken e q block last size (sensible-fit q fit) samples whole left;
         refused = λ cs cause n c f left. ends-known cs cause n c f left;
         begins = λ cs more. good cs .says more ∙ ap (λ (l : List ℕ). after cs .text ++ l) (sym (ap (drop (length (after cs .text))) (good cs .says more) ∙ drop-append-seam (after cs .text) (still (after cs) more)));
         early = λ cs more p. good cs .says more ∙ nothing-more (after cs) more p;

@@ -44,10 +44,10 @@ abbrev pub sampling : Settings → Board → ℕ → ℕ → State
 sampling st b n t = record { phase = 1; line = n; long = false; taken = t; settings = st; board = b }
 
 module _ (e : Equipment) (st : Settings) (b : Board) (n t : ℕ) (s : List ℕ) where
-  abbrev answered : Stepped
+  abbrev pub answered : Stepped
   answered = onSampleNumbers e st b (numbersOf sampleForm (firstLine s))
 
-  said-sample : said e (sampling st b n t) (firstLine s)
+  pub said-sample : said e (sampling st b n t) (firstLine s)
       ≡ record { state = sampling st (answered .board) (n + 1) (t + (length (firstLine s) + 1)); text = answerLine n (answered .answer) }
   unfolding said
   said-sample = refl
@@ -58,13 +58,16 @@ module _ (e : Equipment) (st : Settings) (b : Board) (n t : ℕ) (s : List ℕ) 
   sample-fed f rest =
       resume-fed e (sampling st b n t) s f ∙ rw (said-sample, lines-fed s f, rest, add-one n)
 
-  sample-unfed : hasFeed s ≡ false → resume e (sampling st b n t) s ≡ answersFrom e st b n (linesIn s)
+  pub end-answers : endText (sampling st b n t) s ≡ answersFrom e st b n (lastLine s)
   unfolding endText answersFrom lineStep
-  sample-unfed f = resume-unfed e (sampling st b n t) s f ∙ by s ∙ sym (ap (answersFrom e st b n) (lines-unfed s f))
+  end-answers = by s
     where
       by : (l : List ℕ) → endText (sampling st b n t) l ≡ answersFrom e st b n (lastLine l)
       by [] = refl
       by (c ∷ l) = sym (append-nil _)
+
+  sample-unfed : hasFeed s ≡ false → resume e (sampling st b n t) s ≡ answersFrom e st b n (linesIn s)
+  sample-unfed f = resume-unfed e (sampling st b n t) s f ∙ end-answers ∙ sym (ap (answersFrom e st b n) (lines-unfed s f))
 
 samples-within : (e : Equipment) (st : Settings) (k : ℕ) (b : Board) (n t : ℕ) (s : List ℕ) → length s ≤ k → resume e (sampling st b n t) s ≡ answersFrom e st b n (linesIn s)
 samples-within e st zero b n t s low = by (hasFeed s) refl

@@ -8,7 +8,7 @@ use lib.ListN.{length, take, drop}
 use Rattle.rules.specs.Samples.{Equipment}
 use Rattle.rules.specs.Text.{firstLine, hasFeed}
 use Rattle.rules.specs.Sheets.{readSheet}
-use Rattle.rules.specs.Transcripts.{inputEnd, transcript}
+use Rattle.rules.specs.Transcripts.{inputEnd, linesIn, answersFrom, transcript}
 use Rattle.rules.specs.declared.Refusal.{Refusal}
 use Rattle.rules.specs.declared.SettingsCheck.{SettingsCheck}
 use Rattle.program.specs.States.{start, isDone, sensible}
@@ -59,7 +59,10 @@ joined (c ∷ cs) = c .bytes ++ joined cs
 abbrev pub cut : List Call → List ℕ
 cut cs = take inputEnd (joined cs)
 
--- the bytes of a block that a call leaves
+-- the bytes of a block that a call takes, and those that it leaves
+abbrev pub takenOf : Equipment → State → List ℕ → Bool → ℕ → List ℕ
+takenOf e q block last size = take (respondOf e q block last size .state .taken - q .taken) block
+
 abbrev pub leftOf : Equipment → State → List ℕ → Bool → ℕ → List ℕ
 leftOf e q block last size = drop (respondOf e q block last size .state .taken - q .taken) block
 
@@ -84,6 +87,11 @@ pub record TranscriptLaw (e : Equipment) : Type 0 where
   pub handles : (q : State) (block : List ℕ) (last : Bool) (size : ℕ) → sensible q ≡ true
       → isDone (respondOf e q block last size .state) ≡ false → length (respondOf e q block last size .text) + lineRoom ≤ size
       → (hasFeed (leftOf e q block last size) ≡ false) × (length (leftOf e q block last size) ≤ longest)
+  -- among the samples a call writes the answers to the lines that it takes, then and there; a begun line that is dropped, it being
+  -- longer than any form, has its answer when it ends
+  pub answers : (q : State) (block : List ℕ) (last : Bool) (size : ℕ) → sensible q ≡ true → q .phase ≡ 1 → q .long ≡ false
+      → respondOf e q block last size .state .long ≡ false
+      → respondOf e q block last size .text ≡ answersFrom e (q .settings) (q .board) (q .line) (linesIn (takenOf e q block last size))
   -- a refused sheet ends all as soon as its line is known: the refused line has its line feed, and no whole line is left
   pub refused : (cs : List Call) (cause : Refusal) (n : ℕ) → readSheet (cut cs) .check ≡ SettingsCheck.Refused cause n
       → hasFeed (drop (readSheet (cut cs) .start) (cut cs)) ≡ true → hasFeed (during e opened cs .left) ≡ false
