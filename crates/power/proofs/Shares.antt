@@ -3,11 +3,11 @@
 use mathlib.Core.Path.{_≡_, refl, sym, ap, _∙_}
 use mathlib.Core.Bool.{Bool, true, false, cond}
 use Prim.Native.Nat.{ℕ, zero, suc, _-_, _*_, _/_, _≤_}
-use native.Mathlib.Nat.{mul-comm, mul-le-mul-left, zero-div, div-le-of-le-mul, le-trans}
+use native.Mathlib.Nat.{mul-comm, mul-le-mul-left, zero-mul, zero-div, div-le-of-le-mul, le-trans}
 use native.Mathlib.Omega.{arith}
 use borrow.Author.Tests.{ltb-false, le-ltb}
 use lib.Dec.{T, ltb}
-use lib.IntN.{ℤ, pos, negsuc, negℤ, natAbs, subℕ, _+ℤ_, _-ℤ_, _*ℤ_, negℤ-negℤ, negℤ-+ℤ, +ℤ-comm, -ℤ-+ℤ-cancel}
+use lib.IntN.{ℤ, pos, negsuc, negℤ, natAbs, subℕ, _+ℤ_, _-ℤ_, _*ℤ_, negℤ-negℤ, negℤ-+ℤ, +ℤ-comm, +ℤ-idr, +ℤ-invr, -ℤ-+ℤ-cancel}
 use lib.Signed.{quotZ, nonNeg}
 use Rattle.power.proofs.Magnitude.{abs-neg, abs-sub}
 
@@ -23,6 +23,10 @@ share-le n x g h = div-le-of-le-mul g (rw (mul-comm g n) (mul-le-mul-left n h))
 quot-neg : (m g : ℕ) → quotZ (negℤ (pos m)) (pos g) ≡ negℤ (pos (m / g))
 quot-neg zero g = rw zero-div
 quot-neg (suc m) g = refl
+
+-- of no difference there is no share
+pub no-share : (a : ℤ) (x g : ℕ) → a +ℤ quotZ ((a -ℤ a) *ℤ pos x) (pos g) ≡ a
+no-share a x g = rw (+ℤ-invr, zero-mul, zero-div, +ℤ-idr)
 
 -- ---- bounds
 

@@ -1,6 +1,6 @@
 -- The machine's numbers in `between`, each read back from its bits: each fits an i32, so each is the number that rule 7 has.
 -- Assumes nothing.
-use mathlib.Core.Path.{_≡_, _∙_}
+use mathlib.Core.Path.{_≡_, sym, ap, _∙_}
 use Prim.Native.Nat.{ℕ, _≤_}
 use native.Mathlib.Nat.{mul-le-mul, div-le-self}
 use native.Mathlib.Omega.{arith}
@@ -11,7 +11,7 @@ use mir.Val.{SFits, toZ, ofZ}
 use mir.Facts.{toZ-ofZ, toZ-pos}
 use Rattle.power.specs.Points.{Inside}
 use Rattle.power.proofs.Magnitude.{fits, kept, abs-neg, abs-add, abs-mul, abs-quot}
-use Rattle.power.proofs.Shares.{between-small}
+use Rattle.power.proofs.Shares.{no-share, between-small}
 
 abbrev back : ℤ → ℤ
 back z = toZ w32 (ofZ w32 z)
@@ -77,3 +77,11 @@ module _ (a b : ℤ) (x g : ℕ) (ok : Inside a b x g) where
 
   pub result-is : back (sum a b x g) ≡ ruled
   result-is = toZ-ofZ sum-fits ∙ sum-is
+
+  -- ---- powers with the same bits are the same, and then rule 7's number is that power
+
+  same-powers : ofZ w32 a ≡ ofZ w32 b → a ≡ b
+  same-powers e = sym (kept a (omega arith)) ∙ ap (toZ w32) e ∙ kept b (omega arith)
+
+  pub flat-is : ofZ w32 a ≡ ofZ w32 b → back a ≡ ruled
+  flat-is e = kept a (omega arith) ∙ sym (rw (← same-powers e) (no-share a x g))

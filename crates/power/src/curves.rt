@@ -9,10 +9,14 @@ ghost use Rattle.power.specs.Points.{Inside, Rises, NonNegative};
 use rules::Point;
 
 // Between two points: the left power plus (power difference times distance by gap), the quotient cut toward zero.
+// No division where the curve is flat.
 fn between(left: i32, right: i32, distance: u32, gap: u32) -> i32
     requires { ⌜ Inside left right distance gap ⌝ }
     ensures { λ r. ⌜ r ≡ left +ℤ quotZ ((right -ℤ left) *ℤ pos distance) (pos gap) ⌝ }
 {
+    if left == right {
+        return left;
+    }
     left + (right - left) * (distance as i32) / (gap as i32)
 }
 
