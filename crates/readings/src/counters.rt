@@ -1,14 +1,16 @@
-// Document 01, rules 1 and 2: the nine counters and their bits, in one loop.
+// Document 01, rules 1 and 2: the nine counters and their bits.
 ghost use mathlib.Core.Path.{_≡_};
-ghost use mathlib.Core.Bool.{cond};
+ghost use mathlib.Core.Bool.{true, cond};
 ghost use mathlib.Core.List.{[]};
 ghost use Prim.Native.Nat.{suc, _+_, _*_, _<_, _≤_, min};
 ghost use lib.Dec.{eqb};
 ghost use lib.ListN.{getD, set};
+ghost use Rattle.rules.specs.Settings.{settingsAccepted};
 ghost use Rattle.rules.specs.Counters.{counted, full};
 ghost use Rattle.rules.specs.Records.{each};
 ghost use Rattle.rules.specs.Reports.{packedAfter};
 ghost use Rattle.readings.specs.Readings.{enters, hitAt, topAt, rulesAt};
+ghost use Rattle.readings.specs.Windows.{Calm};
 use crate::reading::Reading;
 use crate::reading::within;
 use rules::Settings;
@@ -86,8 +88,24 @@ fn marked(bits: u16, n: u32, top: u32) -> u16
     if n == top { 2 * bits + 1 } else { 2 * bits }
 }
 
-// All nine counters after the sample, and their bits.
-pub fn count_all(old: [u32; 9], r: Reading, s: Settings) -> Counters
+// The counters and bits of a calm reading: the eight are 0, below their tops, and the ninth counts.
+fn count_ninth(old: [u32; 9], s: Settings) -> Counters
+    requires { ⌜ settingsAccepted s ≡ true ⌝ }
+    ensures { λ c. ⌜ ((r : Reading) → Calm r s → c .n ≡ each (counted []) (rulesAt r s) old) ⌝ }
+    ensures { λ c. ⌜ ((r : Reading) → c .bits ≡ packedAfter 0 (each full (rulesAt r s) (c .n))) ⌝ }
+{
+    let most = top(s, 8);
+    let n = count(true, most, old[8]);
+    let mut c = Counters {
+        n: [0; 9],
+        bits: marked(0, n, most),
+    };
+    c.n[8] = n;
+    c
+}
+
+// The counters and bits one by one.
+fn count_each(old: [u32; 9], r: Reading, s: Settings) -> Counters
     ensures { λ c. ⌜ c .n ≡ each (counted []) (rulesAt r s) old ⌝ }
     ensures { λ c. ⌜ c .bits ≡ packedAfter 0 (each full (rulesAt r s) (c .n)) ⌝ }
 {
@@ -99,4 +117,16 @@ pub fn count_all(old: [u32; 9], r: Reading, s: Settings) -> Counters
         next.bits = marked(next.bits, n, most);
     }
     next
+}
+
+// All nine counters after the sample, and their bits.
+pub fn count_all(calm: bool, old: [u32; 9], r: Reading, s: Settings) -> Counters
+    requires { ⌜ (settingsAccepted s ≡ true) × (calm ≡ true → Calm r s) ⌝ }
+    ensures { λ c. ⌜ c .n ≡ each (counted []) (rulesAt r s) old ⌝ }
+    ensures { λ c. ⌜ c .bits ≡ packedAfter 0 (each full (rulesAt r s) (c .n)) ⌝ }
+{
+    if calm {
+        return count_ninth(old, s);
+    }
+    count_each(old, r, s)
 }

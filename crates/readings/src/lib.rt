@@ -2,3 +2,4 @@
 pub mod counters;
 pub mod reading;
 pub mod regions;
+pub mod windows;

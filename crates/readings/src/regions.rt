@@ -1,6 +1,10 @@
 // Document 01, rule 3: the operating region.
 ghost use mathlib.Core.Path.{_≡_};
+ghost use mathlib.Core.Bool.{true};
 ghost use Rattle.rules.specs.Regions.{voltageRegion, frequencyRegion, rank, worse};
+ghost use Rattle.rules.specs.declared.Region.the-variants.{Continuous};
+ghost use Rattle.readings.specs.Windows.{regionAt};
+use crate::reading::Reading;
 use rules::Region;
 
 // The region of a voltage (Category III).
@@ -51,11 +55,22 @@ fn worst(a: Region, b: Region) -> Region
 }
 
 // The worst of lowest voltage, highest voltage and frequency.
-pub fn region(low: u32, high: u32, frequency: u32) -> Region
+fn worst_region(low: u32, high: u32, frequency: u32) -> Region
     ensures { λ r. ⌜ r ≡ worse (voltageRegion low) (worse (voltageRegion high) (frequencyRegion frequency)) ⌝ }
 {
     let a = voltage_region(low);
     let b = voltage_region(high);
     let c = frequency_region(frequency);
     worst(a, worst(b, c))
+}
+
+// The operating region of a reading; of a calm one it is the best.
+pub fn region(calm: bool, r: Reading) -> Region
+    requires { ⌜ (calm ≡ true → regionAt r ≡ Continuous) ⌝ }
+    ensures { λ a. ⌜ a ≡ regionAt r ⌝ }
+{
+    if calm {
+        return Region::Continuous;
+    }
+    worst_region(r.low, r.high, r.frequency)
 }

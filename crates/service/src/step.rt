@@ -12,6 +12,7 @@ ghost use Rattle.rules.specs.Reports.{packedAfter};
 ghost use Rattle.rules.specs.Records.{fresh, settled, next, stepOf};
 ghost use Rattle.sensing.specs.Tables.{IsTable};
 ghost use Rattle.readings.specs.Readings.{readingOf, Exportable};
+ghost use Rattle.readings.specs.Windows.{windowOf};
 ghost use Rattle.service.specs.Steps.{Bits, reported};
 use crate::powers::powers_in;
 use readings::counters::Counters;
@@ -20,6 +21,9 @@ use readings::reading::Reading;
 use readings::reading::check;
 use readings::reading::read;
 use readings::regions::region;
+use readings::windows::Window;
+use readings::windows::is_calm;
+use readings::windows::window_of;
 use rules::Answer;
 use rules::Board;
 use rules::Region;
@@ -156,22 +160,23 @@ fn settle(s: Settings, r: Reading, c: Counters, on: bool, area: Region, ramp: u3
 }
 
 // Rules 1 to 8, on what is read from an accepted sample.
-fn advance(b: Board, s: Settings, r: Reading) -> Stepped
-    requires { ⌜ Exportable r s ⌝ }
+fn advance(w: Window, b: Board, s: Settings, r: Reading) -> Stepped
+    requires { ⌜ (Exportable r s) × (w ≡ windowOf s) ⌝ }
     ensures { λ t. ⌜ ((x : Slice) → readingOf x ≡ r → t ≡ reported s (next ourEquipment s x b)) ⌝ }
 {
     let old = b.counters;
-    let c = count_all(old, r, s);
+    let calm = is_calm(w, r);
+    let c = count_all(calm, old, r, s);
     let was = in_service(b.status);
     let on = in_service_after(was, r.permit, c.bits);
-    let area = region(r.low, r.high, r.frequency);
+    let area = region(calm, r);
     let ramp = ramp_after(was, on, is_continuous(area), s.ramp, b.ramp);
     settle(s, r, c, on, area, ramp)
 }
 
-// The step under settings that are accepted and with the sensing table lent: only the sample is checked.
-pub fn step_accepted(table: &[u16; 4096], b: Board, s: Settings, x: &[u32]) -> Stepped
-    requires { ⌜ (IsTable (now table)) × (settingsAccepted s ≡ true) ⌝ }
+// The step under settings that are accepted, with the sensing table lent and the settings' window: only the sample is checked.
+pub fn step_accepted(table: &[u16; 4096], w: Window, b: Board, s: Settings, x: &[u32]) -> Stepped
+    requires { ⌜ (IsTable (now table)) × (w ≡ windowOf s) × (settingsAccepted s ≡ true) ⌝ }
     ensures { λ t. ⌜ t ≡ stepOf ourEquipment b s (now (x .entry)) ⌝ }
 {
     match check(x) {
@@ -179,7 +184,7 @@ pub fn step_accepted(table: &[u16; 4096], b: Board, s: Settings, x: &[u32]) -> S
             board: b,
             answer: Answer::Refused(cause),
         },
-        SampleCheck::Accepted => advance(b, s, read(table, x)),
+        SampleCheck::Accepted => advance(w, b, s, read(table, x)),
     }
 }
 
@@ -194,7 +199,7 @@ pub fn step(b: Board, s: Settings, x: &[u32]) -> Stepped
         },
         SettingsCheck::Accepted => {
             let t = table();
-            step_accepted(&t, b, s, x)
+            step_accepted(&t, window_of(s), b, s, x)
         }
     }
 }

@@ -1,74 +1,22 @@
--- `readings::counters::count_all` meets its contract. The loop's invariant: the counters and bits of the rules passed (`Counting.antt`).
+-- `readings::counters::count_all` meets its contract, from what its callees ensure.
 -- Assumes nothing.
-use mathlib.Core.Path.{_≡_, refl}
-use Prim.Native.Nat.{_-_, _≤_}
-use native.Mathlib.Omega.{arith}
-use lib.ListN.{length}
 use borrow.Author.Needs.{needs}
-use Rattle.readings.proofs.Counting.{Passed, turn, all-counters, all-bits, bits-small, eachUpTo}
 use Rattle.readings.proofs.counters.count_all.Statement.{statement}
 use Rattle.readings.proofs.counters.count_all.Tie as tie
 
-abbrev Inv-loop : tie.InvT-loop
-Inv-loop r s next₀ i₀ next i = (i ≤ 9) × Passed r s (next₀ .n) i (next .n) (next .bits)
+count-ninth-requires : tie.Need-count-ninth-requires
+count-ninth-requires c κs = search needs
 
-abbrev μ-loop : tie.MeasureT-loop
-μ-loop r s next₀ i₀ next i = 9 - i
-
-loop-holds : tie.Need-loop-holds Inv-loop μ-loop
-unfolding eachUpTo
-loop-holds c = (omega arith, record { counters = refl; packed = refl })
-
-top-requires : tie.Need-top-requires Inv-loop μ-loop
-top-requires c κs = search needs
-
-counts-requires : tie.Need-counts-requires Inv-loop μ-loop
-counts-requires c κs = search needs
-
-mul-count : tie.Need-mul-count Inv-loop μ-loop
-mul-count c = search needs
-
-element-copy-out-count : tie.Need-element-copy-out-count Inv-loop μ-loop
-element-copy-out-count c = search needs
-
-count-requires : tie.Need-count-requires Inv-loop μ-loop
-count-requires c κs = search needs
-
-mul-next : tie.Need-mul-next Inv-loop μ-loop
-mul-next c = search needs
-
-element-write-next : tie.Need-element-write-next Inv-loop μ-loop
-element-write-next c = search needs
-
-marked-requires : tie.Need-marked-requires Inv-loop μ-loop
-marked-requires c κs =
-    let at = c .before .before .before .before .before .loop in
-    let args = c .before .before .before .before .before .before .args in
-    let long : length (args .old) ≡ 9 = search needs in
-    omega (arith, bits-small (args .r) (args .s) (args .old) long (at .i) (at .next .n) (at .next .bits) (omega arith) (at .inv .1))
-
-add-i : tie.Need-add-i Inv-loop μ-loop
-add-i c = search needs
-
-loop-less : tie.Need-loop-less Inv-loop μ-loop
-loop-less c = search needs
-
-loop-again : tie.Need-loop-again Inv-loop μ-loop
-loop-again c =
-    let at = c .before .before .before .before .before .before .loop in
-    let args = c .before .before .before .before .before .before .before .args in
-    let long : length (args .old) ≡ 9 = search needs in
-    (omega arith, turn (args .r) (args .s) (args .old) long (at .i) (at .next .n) (at .next .bits) (omega arith) (at .inv .1) (c .before .count .result) (c .before .before .before .before .top .result) (c .before .before .before .counts .result) (c .before .before .before .before .top .ensures) (c .before .before .before .counts .ensures) (c .before .count .ensures) (c .marked .result) (c .marked .ensures))
-
-returns : tie.Need-returns Inv-loop μ-loop
+returns : tie.Need-returns
 returns c =
-    let at = c .before .loop in
-    let args = c .before .before .args in
-    let long : length (args .old) ≡ 9 = search needs in
-    let end : at .i ≡ 9 = omega arith in
-    (all-counters (args .r) (args .s) (args .old) long (at .i) (at .next .n) (at .next .bits) end (at .inv .1), all-bits (args .r) (args .s) (args .old) long (at .i) (at .next .n) (at .next .bits) end (at .inv .1))
+    let a = c .before .before .args in
+    (c .count-ninth .ensures .0 (a .r) (c .before .before .pre .1 (c .before .if1 .taken)), c .count-ninth .ensures .1 (a .r))
+
+count-each-requires : tie.Need-count-each-requires
+count-each-requires c κs = search needs
+
+returns-2 : tie.Need-returns-2
+returns-2 c = search needs
 
 pub count-all-spec : {M : Type 1} → statement M
-count-all-spec =
-    tie.close
-    (tie.spec Inv-loop μ-loop loop-holds top-requires counts-requires mul-count element-copy-out-count count-requires mul-next element-write-next marked-requires add-i loop-less loop-again returns)
+count-all-spec = tie.close (tie.spec count-ninth-requires returns count-each-requires returns-2)

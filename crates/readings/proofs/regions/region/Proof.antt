@@ -1,39 +1,18 @@
--- `readings::regions::region` meets its contract, from what its callees ensure.
+-- `readings::regions::region` meets its contract.
 -- Assumes nothing.
+use mathlib.Core.Path.{sym}
 use borrow.Author.Needs.{needs}
 use Rattle.readings.proofs.regions.region.Statement.{statement}
 use Rattle.readings.proofs.regions.region.Tie as tie
-use Rattle.readings.proofs.regions.region.Reads as reads
-use Rattle.readings.proofs.regions.region.Lts as lts
-use Rattle.readings.proofs.regions.frequency_region.Reads as frequency-region-reads
-use Rattle.readings.proofs.regions.voltage_region.Reads as voltage-region-reads
-use Rattle.readings.proofs.regions.worst.Reads as worst-reads
-
-voltage-region-requires : tie.Need-voltage-region-requires
-voltage-region-requires c κs = search needs
-
-voltage-region-requires-2 : tie.Need-voltage-region-requires-2
-voltage-region-requires-2 c κs = search needs
-
-frequency-region-requires : tie.Need-frequency-region-requires
-frequency-region-requires c κs = search needs
-
-worst-requires : tie.Need-worst-requires
-worst-requires c κs = search needs
-
-worst-requires-2 : tie.Need-worst-requires-2
-worst-requires-2 c κs = search needs
 
 returns : tie.Need-returns
-returns c = cc
+returns c = sym (c .before .pre (c .if1 .taken))
+
+worst-region-requires : tie.Need-worst-region-requires
+worst-region-requires c κs = search needs
+
+returns-2 : tie.Need-returns-2
+returns-2 c = search needs
 
 pub region-spec : {M : Type 1} → statement M
-region-spec =
-    tie.close
-    (tie.spec
-    voltage-region-requires
-    voltage-region-requires-2
-    frequency-region-requires
-    worst-requires
-    worst-requires-2
-    returns)
+region-spec = tie.close (tie.spec returns worst-region-requires returns-2)

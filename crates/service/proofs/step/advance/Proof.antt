@@ -20,8 +20,13 @@ use borrow.Author.Needs.{needs}
 use Rattle.service.proofs.step.advance.Statement.{statement}
 use Rattle.service.proofs.step.advance.Tie as tie
 
+is-calm-requires : tie.Need-is-calm-requires
+is-calm-requires c κs = search needs
+
 count-all-requires : tie.Need-count-all-requires
-count-all-requires c κs = search needs
+count-all-requires c κs =
+    let start = c .before .before in
+    (start .pre .0 .sheet, c .is-calm .ensures (start .args .s) (start .pre .1))
 
 in-service-requires : tie.Need-in-service-requires
 in-service-requires c κs = search needs
@@ -30,7 +35,9 @@ in-service-after-requires : tie.Need-in-service-after-requires
 in-service-after-requires c κs = search needs
 
 region-requires : tie.Need-region-requires
-region-requires c κs = search needs
+region-requires c κs =
+    let start = c .before .before .before .before .before in
+    λ t. c .before .before .before .is-calm .ensures (start .args .s) (start .pre .1) t .continuous
 
 is-continuous-requires : tie.Need-is-continuous-requires
 is-continuous-requires c κs = search needs
@@ -40,7 +47,7 @@ ramp-after-requires c κs = search needs
 
 settle-requires : tie.Need-settle-requires
 settle-requires c κs =
-    (c .before .before .before .before .before .before .before .pre, rw (c .ramp-after .ensures) (ramp-top (c .before .before .before .before .in-service .result) (c .before .before .before .in-service-after .result) (c .before .is-continuous .result) (c .before .before .before .before .before .before .before .args .s .ramp) (c .before .before .before .before .before .before .before .args .b .ramp)))
+    (c .before .before .before .before .before .before .before .before .pre .0, rw (c .ramp-after .ensures) (ramp-top (c .before .before .before .before .in-service .result) (c .before .before .before .in-service-after .result) (c .before .is-continuous .result) (c .before .before .before .before .before .before .before .before .args .s .ramp) (c .before .before .before .before .before .before .before .before .args .b .ramp)))
 
 nine-counters : (c : tie.Start) → length (c .args .b .counters) ≡ 9
 nine-counters c = search needs
@@ -48,14 +55,14 @@ nine-counters c = search needs
 returns : tie.Need-returns
 returns c =
     λ x q.
-    let a = c .before .before .before .before .before .before .before .before .args in
+    let a = c .before .before .before .before .before .before .before .before .before .args in
     let cs = c .before .before .before .before .before .before .count-all in
     let was = c .before .before .before .before .before .in-service in
     let on = c .before .before .before .before .in-service-after in
     let area = c .before .before .before .region in
     let even = c .before .before .is-continuous in
     let ramp = c .before .ramp-after in
-    let nine : length (a .b .counters) ≡ 9 = nine-counters (c .before .before .before .before .before .before .before .before) in
+    let nine : length (a .b .counters) ≡ 9 = nine-counters (c .before .before .before .before .before .before .before .before .before) in
     let n-is : cs .result .n ≡ each (counted []) (rulesAt (readingOf x) (a .s)) (a .b .counters)
     = subst (λ (y : Reading). cs .result .n ≡ each (counted []) (rulesAt y (a .s)) (a .b .counters)) (sym q) (cs .ensures .0) in
     let packed : cs .result .bits ≡ packedAfter 0 (each full (rulesAt (readingOf x) (a .s)) (cs .result .n))
@@ -71,6 +78,7 @@ pub advance-spec : {M : Type 1} → statement M
 advance-spec =
     tie.close
     (tie.spec
+    is-calm-requires
     count-all-requires
     in-service-requires
     in-service-after-requires
