@@ -2,15 +2,17 @@
 -- Assumes nothing.
 use mathlib.Core.Path.{_≡_, refl, sym, ap, _∙_}
 use mathlib.Core.List.{List, [], _∷_, _++_, append-assoc}
-use Prim.Native.Nat.{ℕ, zero, suc, _+_, _/_, _%_, _^_, _≤_, _<_}
+use Prim.Native.Nat.{ℕ, zero, suc, _+_, _*_, _/_, _%_, _^_, _≤_, _<_}
 use native.Mathlib.Decide.{decLe}
 use native.Mathlib.Nat.{pow-suc, lt-of-not-le}
 use native.Mathlib.Omega.{arith}
 use borrow.Author.Tests.{lt-ltb, le-ltb}
+use lib.Arith.{mod-mul}
 use lib.ListN.{length, length-append}
 use mir.Syntax.{w64}
 use mir.Val.{Fits}
 use Rattle.rules.specs.Text.{digitsBefore, decimal}
+use Rattle.lines.specs.Pieces.{pair}
 
 -- 20 digits write every number of 64 bits
 pub below : {n : ℕ} → Fits w64 n → n < 10 ^ 20
@@ -59,6 +61,19 @@ unfolding decimal
 more-digits n h below =
     last-then 19 n [] h ∙ digits-then 19 (n / 10) ((48 + n % 10) ∷ [])
     ∙ ap (λ (l : List ℕ). l ++ ((48 + n % 10) ∷ [])) (sym (enough 18 (n / 10) [] (tenth-below 19 n below)))
+
+-- two digits at a time
+pub two-digits : (n : ℕ) → 10 ≤ n → n < 100 → decimal n ≡ pair n
+two-digits n h small = more-digits n h (omega arith) ∙ rw (one-digit (n / 10) (omega arith))
+
+pub pair-more : (n : ℕ) → 100 ≤ n → n < 10 ^ 20 → decimal n ≡ decimal (n / 100) ++ pair (n % 100)
+pair-more n h below =
+    let two : n % 100 ≡ (n / 10 % 10) * 10 + n % 10 = mod-mul n {m = 10} {c = 10} (omega arith) (omega arith) in
+    let ones : n % 100 % 10 ≡ n % 10 = omega (arith, two) in
+    let tens : n % 100 / 10 ≡ n / 10 % 10 = omega (arith, two) in
+    let hundreds : n / 100 ≡ n / 10 / 10 = omega arith in
+    more-digits n (omega arith) below
+    ∙ rw (more-digits (n / 10) (omega arith) (omega arith), append-assoc, ones, tens, hundreds)
 
 pub one-length : (n : ℕ) → n < 10 → length (decimal n) ≡ 1
 one-length n h = ap length (one-digit n h)

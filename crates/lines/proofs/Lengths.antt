@@ -14,7 +14,7 @@ use Rattle.rules.specs.Transcripts.{bitDigits, reportLine, refusedLine}
 use Rattle.rules.specs.declared.Report.{Report}
 use Rattle.rules.specs.declared.Refusal.{Refusal}
 use Rattle.rules.specs.declared.Refusal.the-variants.{Form, Range, Rise, Code, Frequency, Permission, Power, Sample, Buffer}
-use Rattle.lines.specs.Pieces.{statusWord, reportHead, spacedNumber, reportEnd}
+use Rattle.lines.specs.Pieces.{statusWord, reportHead, spacedNumber, reportFront, reportEnd}
 use Rattle.lines.proofs.Decimals.{decimal-length}
 use Rattle.lines.proofs.Whole.{report-pieces, refused-pieces}
 
@@ -64,6 +64,7 @@ refusal-below Buffer = lit< tt
 -- ---- whole lines
 
 pub report-length : (r : Report) → r .share < 65536 → r .watts < 65536 → SFits w16 (r .vars) → length (reportLine r) ≤ 64
+unfolding reportFront
 report-length r share watts vars =
     rw (report-pieces r) (simp length-append
     (omega (arith, head-length r, number-length 4 (r .share) (omega arith), number-length 4 (r .watts) (omega arith), end-length (r .vars) vars)))

@@ -1,8 +1,10 @@
 -- The pieces of the lines of document 01, "Image and program", as they are written one after the other.
 -- Assumes nothing.
 use mathlib.Core.Path.{_≡_}
-use mathlib.Core.List.{List, _++_}
-use Prim.Native.Nat.{ℕ, _+_, _*_, _≤_}
+use mathlib.Core.Bool.{Bool, _&&_}
+use mathlib.Core.List.{List, [], _∷_, _++_}
+use Prim.Native.Nat.{ℕ, _+_, _*_, _/_, _%_, _≤_}
+use lib.Dec.{eqb}
 use lib.IntN.{ℤ}
 use lib.ListN.{length, getD, take, drop}
 use Rattle.rules.specs.Text.{bytes, decimal, signedDecimal}
@@ -26,6 +28,18 @@ reportHead r = bytes "(report " ++ (statusWord (r .status) ++ (bytes " " ++ bitD
 
 unfoldable pub spacedNumber : ℕ → List ℕ
 spacedNumber n = bytes " " ++ decimal n
+
+-- a line's begin, as far as the share
+unfoldable pub reportFront : Report → List ℕ
+reportFront r = reportHead r ++ spacedNumber (r .share)
+
+-- in service and continuous, ready and no limit broken, at full share
+abbrev pub isSteady : Report → Bool
+isSteady r = eqb (r .status) 2 && (eqb (r .bits) 1 && eqb (r .share) 10000)
+
+-- the two digits of a number below 100
+abbrev pub pair : ℕ → List ℕ
+pair n = (48 + n / 10) ∷ (48 + n % 10) ∷ []
 
 -- the vars and the line's end
 unfoldable pub reportEnd : ℤ → List ℕ

@@ -5,7 +5,7 @@ ghost use lib.ListN.{length};
 ghost use Rattle.rules.specs.Refusals.{refusalNumber};
 ghost use Rattle.rules.specs.Transcripts.{reportLine, refusedLine};
 ghost use Rattle.buffers.specs.Written.{Wrote};
-ghost use Rattle.lines.specs.Pieces.{reportHead, spacedNumber, reportEnd};
+ghost use Rattle.lines.specs.Pieces.{reportHead, spacedNumber, reportFront, reportEnd, isSteady};
 
 mod copies;
 mod numbers;
@@ -52,15 +52,40 @@ fn put_end(out: &mut [u8], at: usize, vars: i16) -> usize
     put(out, b, b")\n")
 }
 
+// A board that runs at full share, all in range: what is reported most.
+fn is_steady(report: Report) -> bool
+    ensures { λ r. ⌜ r ≡ isSteady report ⌝ }
+{
+    if report.status != 2 {
+        return false;
+    }
+    if report.bits != 1 {
+        return false;
+    }
+    report.share == 10000
+}
+
+// The line as far as the share: at once where it is the steady one, and otherwise piece by piece.
+fn put_front(out: &mut [u8], at: usize, report: Report) -> usize
+    requires { ⌜ at + 49 ≤ length (now out) ⌝ }
+    ensures { λ r. ⌜ Wrote (now (out .entry)) at (now (out .exit)) r (reportFront report) ⌝ }
+    ensures { λ r. ⌜ r ≤ at + 49 ⌝ }
+{
+    if is_steady(report) {
+        return put(out, at, b"(report continuous 000000001 10000");
+    }
+    let a = put_head(out, at, report);
+    put_number(out, a, report.share as u64)
+}
+
 // A report: status word, nine bits, share, watts, vars.
 pub fn put_report(out: &mut [u8], at: usize, report: Report) -> usize
     requires { ⌜ at + 128 ≤ length (now out) ⌝ }
     ensures { λ r. ⌜ Wrote (now (out .entry)) at (now (out .exit)) r (reportLine report) ⌝ }
 {
-    let a = put_head(out, at, report);
-    let b = put_number(out, a, report.share as u64);
-    let c = put_number(out, b, report.watts as u64);
-    put_end(out, c, report.vars)
+    let a = put_front(out, at, report);
+    let b = put_number(out, a, report.watts as u64);
+    put_end(out, b, report.vars)
 }
 
 // The number of a cause.

@@ -1,11 +1,12 @@
 // Numbers as text: decimals without padding, a minus where negative, and bits.
 ghost use mathlib.Core.Path.{_≡_};
-ghost use Prim.Native.Nat.{_+_, _≤_};
+ghost use Prim.Native.Nat.{_+_, _≤_, _<_};
 ghost use lib.IntN.{natAbs};
 ghost use lib.ListN.{length};
 ghost use Rattle.rules.specs.Text.{decimal, signedDecimal};
 ghost use Rattle.rules.specs.Transcripts.{bitDigits};
 ghost use Rattle.buffers.specs.Written.{Wrote};
+ghost use Rattle.lines.specs.Pieces.{pair};
 use crate::copies::put_byte;
 
 // How many digits a number has.
@@ -21,8 +22,8 @@ fn digits(n: u64) -> usize
     count
 }
 
-// A number, its last digit first.
-pub fn put_decimal(out: &mut [u8], at: usize, n: u64) -> usize
+// A number of any length, its last digit first.
+fn put_long(out: &mut [u8], at: usize, n: u64) -> usize
     requires { ⌜ at + 20 ≤ length (now out) ⌝ }
     ensures { λ r. ⌜ Wrote (now (out .entry)) at (now (out .exit)) r (decimal n) ⌝ }
     ensures { λ r. ⌜ r ≤ at + 20 ⌝ }
@@ -37,6 +38,53 @@ pub fn put_decimal(out: &mut [u8], at: usize, n: u64) -> usize
     }
     out[place] = (48 + rest) as u8;
     end
+}
+
+// Two digits.
+fn put_pair(out: &mut [u8], at: usize, n: u32) -> usize
+    requires { ⌜ (at + 2 ≤ length (now out)) × (n < 100) ⌝ }
+    ensures { λ r. ⌜ Wrote (now (out .entry)) at (now (out .exit)) r (pair n) ⌝ }
+{
+    out[at] = (48 + n / 10) as u8;
+    out[at + 1] = (48 + n % 10) as u8;
+    at + 2
+}
+
+// A number of one digit or two.
+fn put_two(out: &mut [u8], at: usize, n: u32) -> usize
+    requires { ⌜ (at + 2 ≤ length (now out)) × (n < 100) ⌝ }
+    ensures { λ r. ⌜ Wrote (now (out .entry)) at (now (out .exit)) r (decimal n) ⌝ }
+    ensures { λ r. ⌜ r ≤ at + 2 ⌝ }
+{
+    if n < 10 {
+        return put_byte(out, at, (48 + n) as u8);
+    }
+    put_pair(out, at, n)
+}
+
+// A number of up to four digits, two at a time.
+fn put_four(out: &mut [u8], at: usize, n: u32) -> usize
+    requires { ⌜ (at + 4 ≤ length (now out)) × (n < 10000) ⌝ }
+    ensures { λ r. ⌜ Wrote (now (out .entry)) at (now (out .exit)) r (decimal n) ⌝ }
+    ensures { λ r. ⌜ r ≤ at + 4 ⌝ }
+{
+    if n < 100 {
+        return put_two(out, at, n);
+    }
+    let a = put_two(out, at, n / 100);
+    put_pair(out, a, n % 100)
+}
+
+// A number. Most are short.
+pub fn put_decimal(out: &mut [u8], at: usize, n: u64) -> usize
+    requires { ⌜ at + 20 ≤ length (now out) ⌝ }
+    ensures { λ r. ⌜ Wrote (now (out .entry)) at (now (out .exit)) r (decimal n) ⌝ }
+    ensures { λ r. ⌜ r ≤ at + 20 ⌝ }
+{
+    if n < 10000 {
+        return put_four(out, at, n as u32);
+    }
+    put_long(out, at, n)
 }
 
 fn magnitude(v: i16) -> u64

@@ -1,28 +1,22 @@
--- `lines::put_report` meets its contract: its four writes are the line.
+-- `lines::put_report` meets its contract: its three writes are the line.
 -- Assumes nothing.
-use borrow.Author.Needs.{needs}
 use mir.Syntax.{w16}
 use mir.Val.{SFits}
 use mir.Facts.{toZ-ofZ}
 use Rattle.buffers.proofs.Writing.{and-then}
 use Rattle.lines.proofs.Whole.{report-pieces}
+use borrow.Author.Needs.{needs}
 use Rattle.lines.proofs.put_report.Statement.{statement}
 use Rattle.lines.proofs.put_report.Tie as tie
 
-put-head-requires : tie.Need-put-head-requires
-put-head-requires c κs = search needs
+put-front-requires : tie.Need-put-front-requires
+put-front-requires c κs = search needs
 
 cast-put-number : tie.Need-cast-put-number
 cast-put-number c = search needs
 
 put-number-requires : tie.Need-put-number-requires
 put-number-requires c κs = search needs
-
-cast-put-number-2 : tie.Need-cast-put-number-2
-cast-put-number-2 c = search needs
-
-put-number-requires-2 : tie.Need-put-number-requires-2
-put-number-requires-2 c κs = search needs
 
 put-end-requires : tie.Need-put-end-requires
 put-end-requires c κs = search needs
@@ -37,22 +31,18 @@ returns : tie.Need-returns
 returns c =
     let close = c .before .before in
     let watts = close .before .before .before .before .before in
-    let share = watts .before .before .before .before .before in
-    let head = share .before .before .before .before .before in
-    let start = head .before .before .before in
+    let front = watts .before .before .before .before .before in
+    let start = front .before .before .before in
     let vars = rw (toZ-ofZ (signed start)) at (close .put-end .ensures) in
-    rw (report-pieces (start .args .report))
-    (and-then (head .put-head .ensures .0) (and-then (share .put-number .ensures .0) (and-then (watts .put-number2 .ensures .0) vars)))
+    rw (report-pieces (start .args .report)) (and-then (front .put-front .ensures .0) (and-then (watts .put-number .ensures .0) vars))
 
 pub put-report-spec : {M : Type 1} → statement M
 put-report-spec =
     tie.close
     (tie.spec
-    put-head-requires
+    put-front-requires
     cast-put-number
     put-number-requires
-    cast-put-number-2
-    put-number-requires-2
     put-end-requires
     same-length
     returns)

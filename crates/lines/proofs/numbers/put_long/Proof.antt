@@ -1,4 +1,4 @@
--- `lines::numbers::put_decimal` meets its contract. The loop's invariant: with the rest's digits written too, all are.
+-- `lines::numbers::put_long` meets its contract. The loop's invariant: with the rest's digits written too, all are.
 -- Assumes nothing.
 use borrow.Author.Needs.{needs}
 use mathlib.Core.Path.{_≡_, refl, ap, _∙_}
@@ -10,8 +10,8 @@ use Rattle.rules.specs.Text.{decimal}
 use Rattle.buffers.specs.Written.{written}
 use Rattle.buffers.proofs.Writing.{stores, last-first}
 use Rattle.lines.proofs.Decimals.{below, one-digit, one-length, more-digits, more-length, decimal-length, decimal-some}
-use Rattle.lines.proofs.numbers.put_decimal.Statement.{statement}
-use Rattle.lines.proofs.numbers.put_decimal.Tie as tie
+use Rattle.lines.proofs.numbers.put_long.Statement.{statement}
+use Rattle.lines.proofs.numbers.put_long.Tie as tie
 
 abbrev Inv-loop : tie.InvT-loop
 Inv-loop out₀ at n end place₀ rest₀ out place rest =
@@ -93,8 +93,8 @@ returns c =
       omega (arith, c .before .before .digits .ensures, room start),
     )
 
-pub put-decimal-spec : {M : Type 1} → statement M
-put-decimal-spec =
+pub put-long-spec : {M : Type 1} → statement M
+put-long-spec =
     tie.close
     (tie.spec
     Inv-loop

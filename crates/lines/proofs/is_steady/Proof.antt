@@ -1,0 +1,18 @@
+-- `lines::is_steady` meets its contract.
+-- Assumes nothing.
+use mathlib.Core.Path.{refl}
+use borrow.Author.Tests.{eq-eqb, ne-eqb}
+use Rattle.lines.proofs.is_steady.Statement.{statement}
+use Rattle.lines.proofs.is_steady.Tie as tie
+
+returns : tie.Need-returns
+returns c = rw (ne-eqb _ 2 (c .if1 .taken))
+
+returns-2 : tie.Need-returns-2
+returns-2 c = rw (eq-eqb _ 2 (c .before .before .if1 .left), ne-eqb _ 1 (c .if2 .taken))
+
+returns-3 : tie.Need-returns-3
+returns-3 c = rw (eq-eqb _ 2 (c .before .before .before .if1 .left), eq-eqb _ 1 (c .before .if2 .left))
+
+pub is-steady-spec : {M : Type 1} → statement M
+is-steady-spec = tie.close (tie.spec returns returns-2 returns-3)
