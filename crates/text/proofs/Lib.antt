@@ -9,3 +9,4 @@ pub mod Whole
 pub mod Ended
 pub mod Samples
 pub mod Signs
+pub mod Straight

@@ -19,11 +19,11 @@ use Rattle.text.specs.declared.form.Match.{Match}
 
 -- ---- numbers before those found
 
-after-none-before : (o : Option Formed) → after [] o ≡ o
+pub after-none-before : (o : Option Formed) → after [] o ≡ o
 after-none-before none = refl
 after-none-before (some f) = refl
 
-after-after : (xs ys : List ℤ) (o : Option Formed) → after xs (after ys o) ≡ after (xs ++ ys) o
+pub after-after : (xs ys : List ℤ) (o : Option Formed) → after xs (after ys o) ≡ after (xs ++ ys) o
 after-after xs ys none = refl
 after-after xs ys (some f) = rw (append-assoc xs ys (f .numbers))
 

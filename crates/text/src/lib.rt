@@ -12,11 +12,13 @@ ghost use Rattle.text.specs.Places.{MatchAt};
 ghost use Rattle.text.specs.Lines.{numbersRead, sampleRead, sampleAt};
 
 mod form;
+mod near;
 mod number;
 mod table;
 
 use form::Match;
 use form::match_at;
+use near::near_at;
 use table::form_bytes;
 use table::form_starts;
 pub use table::sample_form;
@@ -123,6 +125,12 @@ pub fn sample_at(form: &[u8], s: &[u8], at: usize) -> SampleAt
     requires { ⌜ (now form ≡ sampleForm) × (at ≤ length (now s)) ⌝ }
     ensures { λ r. ⌜ r ≡ sampleAt (now (s .entry)) at ⌝ }
 {
+    if 64 <= s.len() - at {
+        let x = near_at(s, at);
+        if x.found {
+            return x;
+        }
+    }
     let m = match_at(form, s, at);
     let next = m.next;
     let n = m.n;

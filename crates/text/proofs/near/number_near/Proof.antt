@@ -1,0 +1,53 @@
+-- `text::near::number_near` meets its contract: digits that begin with a zero are a number where they are this one.
+-- Assumes nothing.
+use mathlib.Core.Path.{sym, _∙_}
+use mathlib.Core.Bool.{false≢true}
+use Prim.Native.Nat.{_+_}
+use native.Mathlib.Omega.{arith}
+use borrow.Author.Tests.{eqb-true, not-false}
+use Rattle.text.proofs.Taking.{well-taken}
+use borrow.Author.Needs.{needs}
+use Rattle.text.proofs.near.number_near.Statement.{statement}
+use Rattle.text.proofs.near.number_near.Tie as tie
+
+digits-near-requires : tie.Need-digits-near-requires
+digits-near-requires c κs = search needs
+
+passed-over-requires : tie.Need-passed-over-requires
+passed-over-requires c κs = search needs
+
+returns : tie.Need-returns
+returns c found = absurd (false≢true (sym (c .passed-over .ensures) ∙ found))
+
+shared-slice-read-if2 : tie.Need-shared-slice-read-if2
+shared-slice-read-if2 c = search needs
+
+add-t8 : tie.Need-add-t8
+add-t8 c = search needs
+
+returns-2 : tie.Need-returns-2
+returns-2 c found =
+    let d = c .before .before .before .before .digits-near in
+    let a = c .before .before .before .before .before .before .args in
+    let n = d .ensures (not-false _ (c .before .before .if1 .left)) in
+    let one = eqb-true (d .result .next) (a .at + 1) found in
+    record { few = n .few; same = well-taken (a .s .now) (a .at) (record { value = d .result .value; next = d .result .next }) (n .digits) (omega (arith, n .any)) (omega (arith, n .few)) (λ z. omega (arith, one)) }
+
+returns-3 : tie.Need-returns-3
+returns-3 c found =
+    let d = c .before .before .before .before .digits-near in
+    let a = c .before .before .before .before .before .before .args in
+    let n = d .ensures (not-false _ (c .before .before .if1 .left)) in
+    record { few = n .few; same = well-taken (a .s .now) (a .at) (record { value = d .result .value; next = d .result .next }) (n .digits) (omega (arith, n .any)) (omega (arith, n .few)) (λ z. absurd (c .if2 .left z)) }
+
+pub number-near-spec : {M : Type 1} → statement M
+number-near-spec =
+    tie.close
+    (tie.spec
+    digits-near-requires
+    passed-over-requires
+    returns
+    shared-slice-read-if2
+    add-t8
+    returns-2
+    returns-3)

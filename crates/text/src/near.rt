@@ -1,0 +1,171 @@
+// Sample lines read straight through, for speed: most of them stand inside a block, with room after them for the longest one, and then
+// no byte needs a test of the text's end. What is passed over here, the matcher reads; what is found here is what the matcher finds.
+ghost use mathlib.Core.Path.{_≡_};
+ghost use mathlib.Core.Bool.{true, false};
+ghost use Prim.Native.Nat.{_+_, _≤_, _<_};
+ghost use lib.ListN.{length, drop};
+ghost use Rattle.rules.specs.Forms.{sampleForm};
+ghost use Rattle.formats.specs.Marks.{isMark};
+ghost use Rattle.text.specs.Forms.{takeForm};
+ghost use Rattle.text.specs.Lines.{sampleAt};
+ghost use Rattle.text.specs.Near.{NearDigits, NearNumber, NearField, closingByte};
+use crate::SampleAt;
+
+// What is found, and the place after it.
+pub struct Near {
+    pub found: bool,
+    pub next: usize,
+    pub value: u32,
+}
+
+fn passed_over() -> Near
+    ensures { λ r. ⌜ r .found ≡ false ⌝ }
+{
+    Near {
+        found: false,
+        next: 0,
+        value: 0,
+    }
+}
+
+// One to six digits.
+fn digits_near(s: &[u8], at: usize) -> Near
+    requires { ⌜ at + 7 ≤ length (now s) ⌝ }
+    ensures { λ r. ⌜ (r .found ≡ true → NearDigits (now (s .entry)) at r) ⌝ }
+{
+    let mut value: u32 = 0;
+    let mut i = 0;
+    while i < 7 {
+        let d = (s[at + i] ^ 48) as u32;
+        if 9 < d {
+            return Near {
+                found: 0 < i,
+                next: at + i,
+                value,
+            };
+        }
+        value = value * 10 + d;
+        i += 1;
+    }
+    passed_over()
+}
+
+// A number without a leading zero.
+fn number_near(s: &[u8], at: usize) -> Near
+    requires { ⌜ at + 7 ≤ length (now s) ⌝ }
+    ensures { λ r. ⌜ (r .found ≡ true → NearNumber (now (s .entry)) at r) ⌝ }
+{
+    let d = digits_near(s, at);
+    let next = d.next;
+    if !d.found {
+        return passed_over();
+    }
+    if s[at] == 48 {
+        return Near {
+            found: next == at + 1,
+            next,
+            value: d.value,
+        };
+    }
+    d
+}
+
+// A number and the byte that closes it.
+fn field_near(s: &[u8], at: usize, close: u8) -> Near
+    requires { ⌜ (at + 7 ≤ length (now s)) × (isMark close ≡ false) ⌝ }
+    ensures { λ r. ⌜ (r .found ≡ true → NearField (now (s .entry)) at close r) ⌝ }
+{
+    let x = number_near(s, at);
+    let next = x.next;
+    if !x.found {
+        return passed_over();
+    }
+    if s[next] != close {
+        return passed_over();
+    }
+    Near {
+        found: true,
+        next: next + 1,
+        value: x.value,
+    }
+}
+
+// The bytes before the first number.
+fn headed(s: &[u8], at: usize) -> bool
+    requires { ⌜ at + 5 ≤ length (now s) ⌝ }
+    ensures { λ r. ⌜ (r ≡ true → takeForm sampleForm (drop at (now (s .entry))) ≡ takeForm (drop 5 sampleForm) (drop (at + 5) (now (s .entry)))) ⌝ }
+{
+    if s[at] != 40 {
+        return false;
+    }
+    if s[at + 1] != 97 {
+        return false;
+    }
+    if s[at + 2] != 116 {
+        return false;
+    }
+    if s[at + 3] != 32 {
+        return false;
+    }
+    s[at + 4] == 40
+}
+
+// The byte after number k.
+fn closing(k: usize) -> u8
+    ensures { λ r. ⌜ r ≡ closingByte k ⌝ }
+{
+    if k == 2 {
+        return 41;
+    }
+    if k == 6 {
+        return 41;
+    }
+    32
+}
+
+fn no_sample(at: usize) -> SampleAt
+    ensures { λ r. ⌜ r .found ≡ false ⌝ }
+{
+    let slice = [0u32; 7];
+    SampleAt {
+        found: false,
+        next: at,
+        slice,
+    }
+}
+
+// The sample line at a place with at least 64 bytes after it.
+pub fn near_at(s: &[u8], start: usize) -> SampleAt
+    requires { ⌜ start + 64 ≤ length (now s) ⌝ }
+    ensures { λ r. ⌜ (r .found ≡ true → r ≡ sampleAt (now (s .entry)) start) ⌝ }
+{
+    if !headed(s, start) {
+        return no_sample(start);
+    }
+    let mut slice = [0u32; 7];
+    let mut k = 0;
+    let mut at = start + 5;
+    while k < 7 {
+        let x = field_near(s, at, closing(k));
+        if !x.found {
+            return no_sample(start);
+        }
+        slice[k] = x.value;
+        at = x.next;
+        if k == 2 {
+            if s[at] != 32 {
+                return no_sample(start);
+            }
+            at += 1;
+        }
+        k += 1;
+    }
+    if s[at] != 10 {
+        return no_sample(start);
+    }
+    SampleAt {
+        found: true,
+        next: at + 1,
+        slice,
+    }
+}
