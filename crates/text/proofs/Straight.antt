@@ -2,7 +2,7 @@
 -- Assumes nothing.
 use mathlib.Core.Path.{_≡_, refl, sym, ap, _∙_}
 use mathlib.Core.Bool.{Bool, true, false, cond, _||_}
-use mathlib.Core.List.{List, [], _∷_, _++_, map, append-nil}
+use mathlib.Core.List.{List, [], _∷_, _++_, map, append-nil, map-append, map-map, map-id}
 use mathlib.Core.Option.{some}
 use Prim.Native.Nat.{ℕ, zero, suc, _+_, _-_, _*_, _/_, _%_, _≤_, _<_}
 use native.Mathlib.Nat.{div-add-mod', mod-lt}
@@ -14,16 +14,17 @@ use lib.Dec.{eqb}
 use lib.IntN.{ℤ, pos, natAbs}
 use lib.ListN.{length, getD, take, drop, set, replicate, length-set, length-map}
 use lib.Seq.{drop-cons, take-all, take-at, take-suc-set}
-use Rattle.rules.specs.Text.{feed, isDigit, takeNumber}
+use Rattle.rules.specs.Text.{feed, isDigit}
 use Rattle.rules.specs.Forms.{numberMark, sampleForm}
 use Rattle.formats.specs.Marks.{isMark}
 use Rattle.formats.proofs.Digits.{IsDigit, digit-is}
 use Rattle.text.specs.Forms.{Formed, after, takeForm}
 use Rattle.text.specs.Places.{padded, Matched}
 use Rattle.text.specs.Lines.{sampleAt}
-use Rattle.text.specs.Near.{NearField, closingByte}
+use Rattle.text.specs.Near.{NearDigits, NearNumber, NearField, HeadTaken, closingByte}
 use Rattle.text.specs.declared.form.Match.{Match}
 use Rattle.text.specs.declared.near.Near.{Near}
+use Rattle.text.proofs.Taking.{well-taken}
 use Rattle.text.proofs.Matching.{after-none-before, after-after}
 use Rattle.text.proofs.Samples.{at-feed, sample-found}
 
@@ -64,17 +65,29 @@ pub byte-taken : (mark : ℕ) (form s : List ℕ) (at next : ℕ) → isMark mar
 unfolding takeForm
 byte-taken mark form s at next m h e n = rw (m, drop-cons s at 0 h, eq-eqb _ mark e, n, add-one at)
 
+-- a run of digits without a leading zero
+pub number-taken : (s : List ℕ) (at : ℕ) (d : Near) → NearDigits s at d → (getD s at 0 ≡ 48 → d .next ≤ at + 1) → (found : Bool)
+    → NearNumber s at (record { found = found; next = d .next; value = d .value })
+number-taken s at d n lead found =
+    record {
+      few = n .few;
+      same = well-taken s at (record { value = d .value; next = d .next }) (n .digits) (omega (arith, n .any)) (omega (arith, n .few)) (λ z. omega (arith, lead z));
+    }
+
 -- a number and the byte that closes it
-pub field-taken : (close : ℕ) (form s : List ℕ) (at v next : ℕ) → takeNumber (drop at s) ≡ some (record { value = pos v; rest = drop next s })
-    → isMark close ≡ false → next < length s → getD s next 0 ≡ close
-    → takeForm (numberMark ∷ close ∷ form) (drop at s) ≡ after (pos v ∷ []) (takeForm form (drop (next + 1) s))
+pub field-taken : (s : List ℕ) (at close : ℕ) (x : Near) → NearNumber s at x → isMark close ≡ false → x .next < length s → getD s (x .next) 0 ≡ close
+    → NearField s at close (record { found = true; next = x .next + 1; value = x .value })
 unfolding takeForm
-field-taken close form s at v next t m h e = rw t (ap (after (pos v ∷ [])) (byte-taken close form s next (next + 1) m h e refl))
+field-taken s at close x n m h e =
+    record {
+      few = omega (arith, n .few);
+      same = λ form. rw (n .same) (ap (after (pos (x .value) ∷ [])) (byte-taken close form s (x .next) (x .next + 1) m h e refl));
+    }
 
 -- the bytes of the sample form before its first number
 pub head-taken : (s : List ℕ) (at : ℕ) → at + 5 ≤ length s
     → getD s at 0 ≡ 40 → getD s (at + 1) 0 ≡ 97 → getD s (at + 2) 0 ≡ 116 → getD s (at + 3) 0 ≡ 32 → getD s (at + 4) 0 ≡ 40
-    → takeForm sampleForm (drop at s) ≡ takeForm (drop 5 sampleForm) (drop (at + 5) s)
+    → HeadTaken s at
 unfolding sampleForm
 head-taken s at h a b c d e =
     byte-taken 40 (drop 1 sampleForm) s at (at + 1) refl (omega arith) a refl
@@ -111,10 +124,6 @@ closing-plain k = by-test (eqb k 2 || eqb k 6)
     by-test true = refl
     by-test false = refl
 
-map-snoc : (xs : List ℕ) (x : ℕ) → map pos (xs ++ (x ∷ [])) ≡ map pos xs ++ (pos x ∷ [])
-map-snoc [] x = refl
-map-snoc (y ∷ xs) x = ap (λ (l : List ℤ). pos y ∷ l) (map-snoc xs x)
-
 -- k numbers are stored, and the form from number k on stands against the text from `at` on
 pub record Straight (s : List ℕ) (start : ℕ) (slice : List ℕ) (k at : ℕ) : Type 0 where
   pub left : takeForm sampleForm (drop start s) ≡ after (map pos (take k slice)) (takeForm (from k) (drop at s))
@@ -122,8 +131,7 @@ pub record Straight (s : List ℕ) (start : ℕ) (slice : List ℕ) (k at : ℕ)
   pub count : k ≤ 7
   pub near : at ≤ start + 5 + 8 * k
 
-pub straight-start : (s : List ℕ) (start : ℕ) → takeForm sampleForm (drop start s) ≡ takeForm (drop 5 sampleForm) (drop (start + 5) s)
-    → Straight s start (replicate 7 0) 0 (start + 5)
+pub straight-start : (s : List ℕ) (start : ℕ) → HeadTaken s start → Straight s start (replicate 7 0) 0 (start + 5)
 straight-start s start e =
     record {
       left = e ∙ sym (after-none-before (takeForm (drop 5 sampleForm) (drop (start + 5) s)));
@@ -134,17 +142,13 @@ straight-start s start e =
 
 module _ (s : List ℕ) (start : ℕ) (slice : List ℕ) (k at : ℕ) (g : Straight s start slice k at) (h : k < 7)
     (x : Near) (e : NearField s at (closingByte k) x) where
-  pub next-inside : start + 64 ≤ length s → x .next < length s
-  next-inside room = omega (arith, g .near, e .few)
-
   stored : takeForm sampleForm (drop start s) ≡ after (map pos (take (k + 1) (set slice k (x .value)))) (takeForm (spaced k (from (k + 1))) (drop (x .next) s))
   stored =
       let longer : take (k + 1) (set slice k (x .value)) ≡ take k slice ++ (x .value ∷ []) = rw (add-one) (take-suc-set slice k (x .value) (omega (arith, g .size))) in
       g .left
-      ∙ rw (from-closing k h, e .same (spaced k (from (k + 1))), longer, map-snoc (take k slice) (x .value))
+      ∙ rw (from-closing k h, e .same (spaced k (from (k + 1))), longer, map-append pos (take k slice) (x .value ∷ []))
       (after-after (map pos (take k slice)) (pos (x .value) ∷ []) (takeForm (spaced k (from (k + 1))) (drop (x .next) s)))
 
-  -- what follows number k at once, and what follows it after a space
   next-from : (next : ℕ) → next ≤ at + 8 → takeForm (spaced k (from (k + 1))) (drop (x .next) s) ≡ takeForm (from (k + 1)) (drop next s)
       → Straight s start (set slice k (x .value)) (k + 1) next
   next-from next l q =
@@ -155,22 +159,20 @@ module _ (s : List ℕ) (start : ℕ) (slice : List ℕ) (k at : ℕ) (g : Strai
         near = omega (arith, g .near);
       }
 
+  -- the next number follows at once, or after a space
   pub next-number : (k ≡ 2 → ⊥) → Straight s start (set slice k (x .value)) (k + 1) (x .next)
   next-number other = next-from (x .next) (omega (arith, e .few)) (rw (ne-eqb k 2 other))
 
-  pub next-spaced : k ≡ 2 → x .next < length s → getD s (x .next) 0 ≡ 32 → Straight s start (set slice k (x .value)) (k + 1) (x .next + 1)
-  next-spaced third l b =
-      next-from (x .next + 1) (omega (arith, e .few)) (rw (eq-eqb k 2 third) (byte-taken 32 (from (k + 1)) s (x .next) (x .next + 1) refl l b refl))
+  pub next-spaced : k ≡ 2 → start + 64 ≤ length s → getD s (x .next) 0 ≡ 32 → Straight s start (set slice k (x .value)) (k + 1) (x .next + 1)
+  next-spaced third room b =
+      let inside : x .next < length s = omega (arith, g .near, e .few) in
+      next-from (x .next + 1) (omega (arith, e .few)) (rw (eq-eqb k 2 third) (byte-taken 32 (from (k + 1)) s (x .next) (x .next + 1) refl inside b refl))
 
 -- ---- where the sample form ends
 
 from-end : from 7 ≡ []
 unfolding sampleForm
 from-end = refl
-
-numbers-kept : (xs : List ℕ) → map natAbs (map pos xs) ≡ xs
-numbers-kept [] = refl
-numbers-kept (x ∷ xs) = ap (λ (l : List ℕ). x ∷ l) (numbers-kept xs)
 
 module _ (s : List ℕ) (start : ℕ) (slice : List ℕ) (k at : ℕ) (g : Straight s start slice k at) (h : 7 ≤ k) where
   abbrev numbers : List ℤ
@@ -190,4 +192,4 @@ module _ (s : List ℕ) (start : ℕ) (slice : List ℕ) (k at : ℕ) (g : Strai
       let inside : at < length s = omega (arith, g .near, g .count) in
       let matched : Matched f s m = record { found = refl; numbers = refl; rest = refl; inside = omega arith } in
       let seven : take 7 (padded numbers) ≡ numbers = take-at numbers (replicate (8 - length numbers) (pos 0)) 7 (length-map slice pos ∙ g .size) in
-      sample-found s start m (omega arith) slice (at-feed s start m (omega arith) (some f) all-taken matched refl inside b) (rw (seven, numbers-kept slice))
+      sample-found s start m (omega arith) slice (at-feed s start m (omega arith) (some f) all-taken matched refl inside b) (rw (seven, map-map natAbs pos slice, map-id slice))

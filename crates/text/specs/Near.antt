@@ -9,7 +9,7 @@ use lib.Dec.{eqb}
 use lib.IntN.{pos}
 use lib.ListN.{drop}
 use Rattle.rules.specs.Text.{takeNumber}
-use Rattle.rules.specs.Forms.{numberMark}
+use Rattle.rules.specs.Forms.{numberMark, sampleForm}
 use Rattle.text.specs.Forms.{after, takeForm}
 use Rattle.text.specs.Places.{DigitsAt}
 use Rattle.text.specs.declared.near.Near.{Near}
@@ -29,6 +29,10 @@ pub record NearNumber (s : List ℕ) (at : ℕ) (r : Near) : Type 0 where
 pub record NearField (s : List ℕ) (at close : ℕ) (r : Near) : Type 0 where
   pub few : r .next ≤ at + 7
   pub same : (form : List ℕ) → takeForm (numberMark ∷ close ∷ form) (drop at s) ≡ after (pos (r .value) ∷ []) (takeForm form (drop (r .next) s))
+
+-- the bytes of the sample form before its first number
+abbrev pub HeadTaken : List ℕ → ℕ → Type 0
+HeadTaken s at = takeForm sampleForm (drop at s) ≡ takeForm (drop 5 sampleForm) (drop (at + 5) s)
 
 -- the byte after number k of the sample form
 abbrev pub closingByte : ℕ → ℕ

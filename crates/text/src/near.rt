@@ -2,16 +2,14 @@
 // no byte needs a test of the text's end. What is passed over here, the matcher reads; what is found here is what the matcher finds.
 ghost use mathlib.Core.Path.{_≡_};
 ghost use mathlib.Core.Bool.{true, false};
-ghost use Prim.Native.Nat.{_+_, _≤_, _<_};
-ghost use lib.ListN.{length, drop};
-ghost use Rattle.rules.specs.Forms.{sampleForm};
+ghost use Prim.Native.Nat.{_+_, _≤_};
+ghost use lib.ListN.{length};
 ghost use Rattle.formats.specs.Marks.{isMark};
-ghost use Rattle.text.specs.Forms.{takeForm};
 ghost use Rattle.text.specs.Lines.{sampleAt};
-ghost use Rattle.text.specs.Near.{NearDigits, NearNumber, NearField, closingByte};
+ghost use Rattle.text.specs.Near.{NearDigits, NearNumber, NearField, HeadTaken, closingByte};
 use crate::SampleAt;
 
-// What is found, and the place after it.
+// What is found: the place after it, and its value.
 pub struct Near {
     pub found: bool,
     pub next: usize,
@@ -93,7 +91,7 @@ fn field_near(s: &[u8], at: usize, close: u8) -> Near
 // The bytes before the first number.
 fn headed(s: &[u8], at: usize) -> bool
     requires { ⌜ at + 5 ≤ length (now s) ⌝ }
-    ensures { λ r. ⌜ (r ≡ true → takeForm sampleForm (drop at (now (s .entry))) ≡ takeForm (drop 5 sampleForm) (drop (at + 5) (now (s .entry)))) ⌝ }
+    ensures { λ r. ⌜ (r ≡ true → HeadTaken (now (s .entry)) at) ⌝ }
 {
     if s[at] != 40 {
         return false;
@@ -134,7 +132,7 @@ fn no_sample(at: usize) -> SampleAt
     }
 }
 
-// The sample line at a place with at least 64 bytes after it.
+// The sample line at a place, with at least 64 bytes from there on: the longest one has fewer.
 pub fn near_at(s: &[u8], start: usize) -> SampleAt
     requires { ⌜ start + 64 ≤ length (now s) ⌝ }
     ensures { λ r. ⌜ (r .found ≡ true → r ≡ sampleAt (now (s .entry)) start) ⌝ }

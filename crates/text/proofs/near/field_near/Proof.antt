@@ -39,7 +39,7 @@ returns-3 c found =
     let x = c .before .before .before .before .number-near in
     let p = c .before .before .before .before .before .before in
     let n = x .ensures (not-false _ (c .before .before .if1 .left)) in
-    record { few = omega (arith, n .few); same = λ form. field-taken (p .args .close) form (p .args .s .now) (p .args .at) (x .result .value) (x .result .next) (n .same) (p .pre .1) (omega (arith, n .few, p .pre .0)) (c .if2 .left) }
+    field-taken (p .args .s .now) (p .args .at) (p .args .close) (x .result) n (p .pre .1) (omega (arith, n .few, p .pre .0)) (c .if2 .left)
 
 pub field-near-spec : {M : Type 1} → statement M
 field-near-spec =

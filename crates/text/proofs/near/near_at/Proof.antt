@@ -1,13 +1,12 @@
 -- `text::near::near_at` meets its contract: each turn takes one number of the sample form with the byte that closes it.
 -- Assumes nothing.
-use mathlib.Core.Path.{_≡_, refl, sym, _∙_, subst}
+use mathlib.Core.Path.{sym, _∙_}
 use mathlib.Core.Bool.{false≢true}
 use mathlib.Core.Logic.{⊎-elim}
-use Prim.Native.Nat.{_+_, _-_}
+use Prim.Native.Nat.{_-_}
 use native.Mathlib.Omega.{arith}
 use borrow.Author.Tests.{not-false}
-use lib.ListN.{length, set}
-use Rattle.text.proofs.Straight.{Straight, straight-start, closing-plain, next-inside, next-number, next-spaced, straight-ends}
+use Rattle.text.proofs.Straight.{Straight, straight-start, closing-plain, next-number, next-spaced, straight-ends}
 use borrow.Author.Needs.{needs}
 use Rattle.text.proofs.near.near_at.Statement.{statement}
 use Rattle.text.proofs.near.near_at.Tie as tie
@@ -60,11 +59,9 @@ array-write-slice c =
 shared-slice-read-if4 : tie.Need-shared-slice-read-if4 Inv-loop μ-loop
 shared-slice-read-if4 c =
     let n = c .before .before in
-    let x = n .before .before .field-near in
-    let l = n .before .before .before .before .before in
-    let p = l .before .before .before .before in
-    let e = rw (n .before .before .before .closing .ensures) at (x .ensures (not-false _ (n .if2 .left))) in
-    next-inside (p .args .s .now) (p .args .start) (l .loop .slice) (l .loop .k) (l .loop .at) (l .loop .inv) (n .before .before .before .before .loop-test .taken) (x .result) e (p .pre)
+    let few = n .before .before .field-near .ensures (not-false _ (n .if2 .left)) .few in
+    let l = n .before .before .before .before in
+    omega (arith, few, l .loop-test .taken, l .before .loop .inv .near, l .before .before .before .before .before .pre)
 
 no-sample-requires-3 : tie.Need-no-sample-requires-3 Inv-loop μ-loop
 no-sample-requires-3 c κs = search needs
@@ -75,11 +72,9 @@ returns-3 c found = absurd (false≢true (sym (c .no-sample3 .ensures) ∙ found
 add-at-2 : tie.Need-add-at-2 Inv-loop μ-loop
 add-at-2 c =
     let n = c .before .before .before in
-    let x = n .before .before .field-near in
-    let l = n .before .before .before .before .before in
-    let p = l .before .before .before .before in
-    let e = rw (n .before .before .before .closing .ensures) at (x .ensures (not-false _ (n .if2 .left))) in
-    omega (arith, next-inside (p .args .s .now) (p .args .start) (l .loop .slice) (l .loop .k) (l .loop .at) (l .loop .inv) (n .before .before .before .before .loop-test .taken) (x .result) e (p .pre))
+    let few = n .before .before .field-near .ensures (not-false _ (n .if2 .left)) .few in
+    let l = n .before .before .before .before in
+    omega (arith, few, l .loop-test .taken, l .before .loop .inv .near, l .before .before .before .before .before .pre)
 
 add-k : tie.Need-add-k Inv-loop μ-loop
 add-k c = search needs
@@ -95,7 +90,7 @@ loop-again c =
     let p = l .before .before .before .before in
     let e = rw (n .before .before .before .closing .ensures) at (x .ensures (not-false _ (n .if2 .left))) in
     ⊎-elim
-    (λ w. rw (w .3) (next-spaced (p .args .s .now) (p .args .start) (l .loop .slice) (l .loop .k) (l .loop .at) (l .loop .inv) (n .before .before .before .before .loop-test .taken) (x .result) e (w .0 .taken) (next-inside (p .args .s .now) (p .args .start) (l .loop .slice) (l .loop .k) (l .loop .at) (l .loop .inv) (n .before .before .before .before .loop-test .taken) (x .result) e (p .pre)) (w .2 .left)))
+    (λ w. rw (w .3) (next-spaced (p .args .s .now) (p .args .start) (l .loop .slice) (l .loop .k) (l .loop .at) (l .loop .inv) (n .before .before .before .before .loop-test .taken) (x .result) e (w .0 .taken) (p .pre) (w .2 .left)))
     (λ w. rw (w .1) (next-number (p .args .s .now) (p .args .start) (l .loop .slice) (l .loop .k) (l .loop .at) (l .loop .inv) (n .before .before .before .before .loop-test .taken) (x .result) e (w .0 .left)))
     (c .if3 .came)
 

@@ -5,7 +5,7 @@ use mathlib.Core.Bool.{false≢true}
 use Prim.Native.Nat.{_+_}
 use native.Mathlib.Omega.{arith}
 use borrow.Author.Tests.{eqb-true, not-false}
-use Rattle.text.proofs.Taking.{well-taken}
+use Rattle.text.proofs.Straight.{number-taken}
 use borrow.Author.Needs.{needs}
 use Rattle.text.proofs.near.number_near.Statement.{statement}
 use Rattle.text.proofs.near.number_near.Tie as tie
@@ -31,14 +31,14 @@ returns-2 c found =
     let a = c .before .before .before .before .before .before .args in
     let n = d .ensures (not-false _ (c .before .before .if1 .left)) in
     let one = eqb-true (d .result .next) (a .at + 1) found in
-    record { few = n .few; same = well-taken (a .s .now) (a .at) (record { value = d .result .value; next = d .result .next }) (n .digits) (omega (arith, n .any)) (omega (arith, n .few)) (λ z. omega (arith, one)) }
+    number-taken (a .s .now) (a .at) (d .result) n (λ z. omega (arith, one)) _
 
 returns-3 : tie.Need-returns-3
 returns-3 c found =
     let d = c .before .before .before .before .digits-near in
     let a = c .before .before .before .before .before .before .args in
     let n = d .ensures (not-false _ (c .before .before .if1 .left)) in
-    record { few = n .few; same = well-taken (a .s .now) (a .at) (record { value = d .result .value; next = d .result .next }) (n .digits) (omega (arith, n .any)) (omega (arith, n .few)) (λ z. absurd (c .if2 .left z)) }
+    number-taken (a .s .now) (a .at) (d .result) n (λ z. absurd (c .if2 .left z)) _
 
 pub number-near-spec : {M : Type 1} → statement M
 number-near-spec =
