@@ -120,8 +120,8 @@ pub struct SampleAt {
     pub slice: [u32; 7],
 }
 
-// The sample line at a place of a text: straight through where there is room, and else by its form, which is lent, so that it is made
-// once for many lines.
+// The sample line at a place of a text: read straight through where there is room, and by its form where that finds nothing. The form is
+// lent, so that it is made once for many lines.
 pub fn sample_at(form: &[u8], s: &[u8], at: usize) -> SampleAt
     requires { ⌜ (now form ≡ sampleForm) × (at ≤ length (now s)) ⌝ }
     ensures { λ r. ⌜ r ≡ sampleAt (now (s .entry)) at ⌝ }
