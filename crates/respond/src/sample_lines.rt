@@ -1,14 +1,18 @@
 // The sample lines of a block.
 ghost use mathlib.Core.Path.{_≡_};
-ghost use mathlib.Core.Bool.{_&&_};
+ghost use mathlib.Core.Bool.{false, _&&_};
 ghost use Prim.Native.Nat.{_+_, _-_, _≤_};
 ghost use lib.Dec.{leb};
 ghost use lib.ListN.{length, drop};
 ghost use Rattle.rules.specs.Settings.{settingsAccepted};
+ghost use Rattle.rules.specs.Samples.{Slice};
+ghost use Rattle.rules.specs.Regions.{ourEquipment};
+ghost use Rattle.rules.specs.Records.{stepOf};
 ghost use Rattle.rules.specs.Forms.{sampleForm};
 ghost use Rattle.rules.specs.Transcripts.{answerLine};
 ghost use Rattle.buffers.specs.Written.{Wrote};
 ghost use Rattle.sensing.specs.Tables.{IsTable};
+ghost use Rattle.readings.specs.Windows.{windowOf};
 ghost use Rattle.program.specs.States.{Fit};
 ghost use Rattle.program.specs.Responses.{lineRoom};
 ghost use Rattle.respond.specs.SampleLines.{withoutNumbers, formlessAt, lineAt, answerTo};
@@ -17,13 +21,14 @@ use crate::state::Handled;
 use lines::put_refused;
 use lines::put_report;
 use program::State;
+use readings::windows::Window;
+use readings::windows::window_of;
 use rules::Answer;
 use rules::Board;
 use rules::Refusal;
 use rules::Settings;
 use rules::SettingsCheck;
 use rules::Stepped;
-use service::step::step;
 use service::step_accepted;
 use text::line_end;
 use text::sample_at;
@@ -102,9 +107,33 @@ fn line_at(form: &[u8], long: bool, s: &[u8], at: usize) -> LineAt
     formless_at(s, at)
 }
 
+// The settings' own refusal, whatever the sample.
+fn refused_settings(b: Board, s: Settings) -> Stepped
+    requires { ⌜ settingsAccepted s ≡ false ⌝ }
+    ensures { λ r. ⌜ ((x : Slice) → r ≡ stepOf ourEquipment b s x) ⌝ }
+{
+    match settings::check(s) {
+        SettingsCheck::Refused(cause, _) => Stepped {
+            board: b,
+            answer: Answer::Refused(cause),
+        },
+        SettingsCheck::Accepted => Stepped {
+            board: b,
+            answer: Answer::Refused(Refusal::Form),
+        },
+    }
+}
+
 // What a line with or without numbers makes of a board: a step, or the refusal of a line that has not its form.
-fn answer_to(table: &[u16; 4096], fine: bool, b: Board, s: Settings, x: LineAt) -> Stepped
-    requires { ⌜ (IsTable (now table)) × (fine ≡ settingsAccepted s) ⌝ }
+fn answer_to(
+    table: &[u16; 4096],
+    w: Window,
+    fine: bool,
+    b: Board,
+    s: Settings,
+    x: LineAt,
+) -> Stepped
+    requires { ⌜ (IsTable (now table)) × (w ≡ windowOf s) × (fine ≡ settingsAccepted s) ⌝ }
     ensures { λ r. ⌜ r ≡ answerTo b s x ⌝ }
 {
     if !x.found {
@@ -113,11 +142,11 @@ fn answer_to(table: &[u16; 4096], fine: bool, b: Board, s: Settings, x: LineAt) 
             answer: Answer::Refused(Refusal::Sample),
         };
     }
-    let slice = x.slice;
-    if fine {
-        return step_accepted(table, b, s, &slice);
+    if !fine {
+        return refused_settings(b, s);
     }
-    step(b, s, &slice)
+    let slice = x.slice;
+    step_accepted(table, w, b, s, &slice)
 }
 
 // The line is ended, and there is room for its answer.
@@ -139,6 +168,7 @@ pub fn sample_lines(table: &[u16; 4096], h: Handled, s: &[u8], out: &mut [u8]) -
     let q = h.state;
     let settings = q.settings;
     let fine = accepted(settings);
+    let ordinary = window_of(settings);
     let form = sample_form();
     let mut board = q.board;
     let mut line = q.line;
@@ -150,7 +180,7 @@ pub fn sample_lines(table: &[u16; 4096], h: Handled, s: &[u8], out: &mut [u8]) -
         let x = line_at(&form, long, s, at);
         going = fits(x.ended, out.len() - w);
         if going {
-            let r = answer_to(table, fine, board, settings, x);
+            let r = answer_to(table, ordinary, fine, board, settings, x);
             let answer = r.answer;
             board = r.board;
             w = put_answer(out, w, answer, line);
