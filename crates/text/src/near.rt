@@ -34,7 +34,7 @@ fn digits_near(s: &[u8], at: usize) -> Near
     let mut value: u32 = 0;
     let mut i = 0;
     while i < 7 {
-        let d = (s[at + i] ^ 48) as u32;
+        let d = (s[at + i] ^ b'0') as u32;
         if 9 < d {
             return Near {
                 found: 0 < i,
@@ -58,7 +58,7 @@ fn number_near(s: &[u8], at: usize) -> Near
     if !d.found {
         return passed_over();
     }
-    if s[at] == 48 {
+    if s[at] == b'0' {
         return Near {
             found: next == at + 1,
             next,
@@ -93,19 +93,19 @@ fn headed(s: &[u8], at: usize) -> bool
     requires { ⌜ at + 5 ≤ length (now s) ⌝ }
     ensures { λ r. ⌜ (r ≡ true → HeadTaken (now (s .entry)) at) ⌝ }
 {
-    if s[at] != 40 {
+    if s[at] != b'(' {
         return false;
     }
-    if s[at + 1] != 97 {
+    if s[at + 1] != b'a' {
         return false;
     }
-    if s[at + 2] != 116 {
+    if s[at + 2] != b't' {
         return false;
     }
-    if s[at + 3] != 32 {
+    if s[at + 3] != b' ' {
         return false;
     }
-    s[at + 4] == 40
+    s[at + 4] == b'('
 }
 
 // The byte after number k.
@@ -113,12 +113,12 @@ fn closing(k: usize) -> u8
     ensures { λ r. ⌜ r ≡ closingByte k ⌝ }
 {
     if k == 2 {
-        return 41;
+        return b')';
     }
     if k == 6 {
-        return 41;
+        return b')';
     }
-    32
+    b' '
 }
 
 fn no_sample(at: usize) -> SampleAt
@@ -151,14 +151,14 @@ pub fn near_at(s: &[u8], start: usize) -> SampleAt
         slice[k] = x.value;
         at = x.next;
         if k == 2 {
-            if s[at] != 32 {
+            if s[at] != b' ' {
                 return no_sample(start);
             }
             at += 1;
         }
         k += 1;
     }
-    if s[at] != 10 {
+    if s[at] != b'\n' {
         return no_sample(start);
     }
     SampleAt {
