@@ -38,5 +38,8 @@ paste -d '\t' "$out/calls" "$out/expected" "$out/answers" | awk -F '\t' '
 add "$out/c-calls.log" "C, calls"
 "$out/check-rust" > "$out/rust.log" || echo "check-rust ends with $?"
 add "$out/rust.log" "Rust, calls"
+calls=$(sed -n 's/^calls: \([0-9]*\),.*/\1/p' "$out/c-calls.log" "$out/rust.log" | awk '{ n += $1 } END { print n + 0 }')
+if [ "$calls" -ge 300000 ]; then passed=$((passed + 1)); else failed=$((failed + 1)); fi
+echo "calls in all: $calls, at least 300000 asked"
 echo "$passed passed, $failed failed"
 [ "$failed" -eq 0 ]

@@ -33,7 +33,7 @@ spacedNumber n = bytes " " ++ decimal n
 unfoldable pub reportFront : Report → List ℕ
 reportFront r = reportHead r ++ spacedNumber (r .share)
 
--- in service and continuous, ready and no limit broken, at full share
+-- status continuous, of the nine bits ready alone, full share
 abbrev pub isSteady : Report → Bool
 isSteady r = eqb (r .status) 2 && (eqb (r .bits) 1 && eqb (r .share) 10000)
 

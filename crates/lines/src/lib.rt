@@ -52,7 +52,7 @@ fn put_end(out: &mut [u8], at: usize, vars: i16) -> usize
     put(out, b, b")\n")
 }
 
-// A board that runs at full share, all in range: what is reported most.
+// Continuous, of the nine bits ready alone, full share: what is reported most.
 fn is_steady(report: Report) -> bool
     ensures { λ r. ⌜ r ≡ isSteady report ⌝ }
 {

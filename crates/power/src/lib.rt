@@ -4,5 +4,4 @@ mod rating;
 
 pub use curves::volt_var;
 pub use curves::volt_watt;
-pub use rating::nameplate;
 pub use rating::within_nameplate;

@@ -26,7 +26,7 @@ fn root(room: u32) -> u32
 }
 
 // The most watts beside vars.
-pub fn nameplate(vars: i32) -> u32
+fn nameplate(vars: i32) -> u32
     requires { ⌜ natAbs vars ≤ 10000 ⌝ }
     ensures { λ r. ⌜ r ≡ nameplate vars ⌝ }
 {

@@ -1,15 +1,17 @@
 -- What the rules read from an accepted sample, and the nine rules on such a reading.
 -- Assumes nothing.
 use mathlib.Core.Path.{_≡_}
-use mathlib.Core.Bool.{Bool, true, cond}
+use mathlib.Core.Bool.{Bool, true, false, cond}
 use mathlib.Core.List.{List, [], _∷_}
-use Prim.Native.Nat.{ℕ, zero, suc, _+_, _≤_, max}
+use Prim.Native.Nat.{ℕ, zero, suc, _+_, _≤_, _<_, max}
 use lib.Dec.{ltb}
 use Rattle.rules.specs.Tests.{all, within}
 use Rattle.rules.specs.Settings.{settingsAccepted, limitAt}
 use Rattle.rules.specs.Samples.{Slice, frequency, permitted, available, operatorLimit, phase, lowest, highest}
 use Rattle.rules.specs.Counters.{Rule}
-use Rattle.rules.specs.Regions.{ourEquipment}
+use Rattle.rules.specs.Regions.{ourEquipment, voltageRegion, frequencyRegion, worse}
+use Rattle.rules.specs.declared.Region.{Region}
+use Rattle.rules.specs.declared.Region.the-variants.{Continuous}
 use Rattle.rules.specs.declared.Settings.{Settings}
 use Rattle.readings.specs.declared.reading.Reading.{Reading}
 
@@ -34,6 +36,10 @@ enters r s =
     ∷ within (s .hertz .low) (s .hertz .high) (r .frequency)
     ∷ [])
 
+-- rule 3 on a reading
+abbrev pub regionAt : Reading → Region
+regionAt r = worse (voltageRegion (r .low)) (worse (voltageRegion (r .high)) (frequencyRegion (r .frequency)))
+
 -- whether limit i is broken, by its place: uv1 uv2, ov1 ov2, uf1 uf2, of1 of2
 abbrev pub brokenAt : Reading → ℕ → ℕ → Bool
 brokenAt r i level =
@@ -45,6 +51,11 @@ hitAt r s i = cond (ltb i 8) (brokenAt r i (limitAt s i .level)) (enters r s)
 
 abbrev pub topAt : Settings → ℕ → ℕ
 topAt s i = cond (ltb i 8) (limitAt s i .clearing) (max 1 (s .wait))
+
+-- an ordinary reading: no limit is broken, and operation is continuous
+pub record Ordinary (r : Reading) (s : Settings) : Type 0 where
+  pub unbroken : (i : ℕ) → i < 8 → hitAt r s i ≡ false
+  pub continuous : regionAt r ≡ Continuous
 
 -- rule i on a reading: it counts whatever sample has the reading
 abbrev pub ruleAt : Reading → Settings → ℕ → Rule

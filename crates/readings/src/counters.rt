@@ -2,15 +2,13 @@
 ghost use mathlib.Core.Path.{_≡_};
 ghost use mathlib.Core.Bool.{true, cond};
 ghost use mathlib.Core.List.{[]};
-ghost use Prim.Native.Nat.{suc, _+_, _*_, _<_, _≤_, min};
+ghost use Prim.Native.Nat.{suc, _+_, _*_, _<_, min};
 ghost use lib.Dec.{eqb};
-ghost use lib.ListN.{getD, set};
 ghost use Rattle.rules.specs.Settings.{settingsAccepted};
 ghost use Rattle.rules.specs.Counters.{counted, full};
 ghost use Rattle.rules.specs.Records.{each};
 ghost use Rattle.rules.specs.Reports.{packedAfter};
 ghost use Rattle.readings.specs.Readings.{enters, hitAt, topAt, rulesAt};
-ghost use Rattle.readings.specs.Windows.{Calm};
 use crate::reading::Reading;
 use crate::reading::within;
 use rules::Settings;
@@ -22,7 +20,7 @@ pub struct Counters {
 }
 
 // The enter-service criteria of rule 2.
-fn in_range(r: Reading, s: Settings) -> bool
+pub fn in_range(r: Reading, s: Settings) -> bool
     ensures { λ b. ⌜ b ≡ enters r s ⌝ }
 {
     let permit = r.permit;
@@ -88,10 +86,11 @@ fn marked(bits: u16, n: u32, top: u32) -> u16
     if n == top { 2 * bits + 1 } else { 2 * bits }
 }
 
-// The counters and bits of a calm reading: the eight are 0, below their tops, and the ninth counts.
+// The counters and bits of a reading in the enter-service range: under accepted settings no limit is broken there, so the eight are 0,
+// below their tops, and the ninth counts.
 fn count_ninth(old: [u32; 9], s: Settings) -> Counters
     requires { ⌜ settingsAccepted s ≡ true ⌝ }
-    ensures { λ c. ⌜ ((r : Reading) → Calm r s → c .n ≡ each (counted []) (rulesAt r s) old) ⌝ }
+    ensures { λ c. ⌜ ((r : Reading) → enters r s ≡ true → c .n ≡ each (counted []) (rulesAt r s) old) ⌝ }
     ensures { λ c. ⌜ ((r : Reading) → c .bits ≡ packedAfter 0 (each full (rulesAt r s) (c .n))) ⌝ }
 {
     let most = top(s, 8);
@@ -119,13 +118,13 @@ fn count_each(old: [u32; 9], r: Reading, s: Settings) -> Counters
     next
 }
 
-// All nine counters after the sample, and their bits.
-pub fn count_all(calm: bool, old: [u32; 9], r: Reading, s: Settings) -> Counters
-    requires { ⌜ (settingsAccepted s ≡ true) × (calm ≡ true → Calm r s) ⌝ }
+// All nine counters after the sample, and their bits. The loop is for readings outside the enter-service range.
+pub fn count_all(inside: bool, old: [u32; 9], r: Reading, s: Settings) -> Counters
+    requires { ⌜ (settingsAccepted s ≡ true) × (inside ≡ enters r s) ⌝ }
     ensures { λ c. ⌜ c .n ≡ each (counted []) (rulesAt r s) old ⌝ }
     ensures { λ c. ⌜ c .bits ≡ packedAfter 0 (each full (rulesAt r s) (c .n)) ⌝ }
 {
-    if calm {
+    if inside {
         return count_ninth(old, s);
     }
     count_each(old, r, s)

@@ -2,4 +2,3 @@
 pub mod counters;
 pub mod reading;
 pub mod regions;
-pub mod windows;

@@ -83,7 +83,7 @@ pub fn least(a: u32, b: u32) -> u32
     if a < b { a } else { b }
 }
 
-pub fn most(a: u32, b: u32) -> u32
+fn most(a: u32, b: u32) -> u32
     ensures { λ r. ⌜ r ≡ max a b ⌝ }
 {
     if a < b { b } else { a }

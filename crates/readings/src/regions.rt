@@ -3,12 +3,12 @@ ghost use mathlib.Core.Path.{_≡_};
 ghost use mathlib.Core.Bool.{true};
 ghost use Rattle.rules.specs.Regions.{voltageRegion, frequencyRegion, rank, worse};
 ghost use Rattle.rules.specs.declared.Region.the-variants.{Continuous};
-ghost use Rattle.readings.specs.Windows.{regionAt};
+ghost use Rattle.readings.specs.Readings.{regionAt};
 use crate::reading::Reading;
 use rules::Region;
 
 // The region of a voltage (Category III).
-pub fn voltage_region(v: u32) -> Region
+fn voltage_region(v: u32) -> Region
     ensures { λ r. ⌜ r ≡ voltageRegion v ⌝ }
 {
     if 12000 < v {
@@ -24,7 +24,7 @@ pub fn voltage_region(v: u32) -> Region
     }
 }
 
-pub fn frequency_region(f: u32) -> Region
+fn frequency_region(f: u32) -> Region
     ensures { λ r. ⌜ r ≡ frequencyRegion f ⌝ }
 {
     if f < 58800 {
@@ -64,12 +64,12 @@ fn worst_region(low: u32, high: u32, frequency: u32) -> Region
     worst(a, worst(b, c))
 }
 
-// The operating region of a reading; of a calm one it is the best.
-pub fn region(calm: bool, r: Reading) -> Region
-    requires { ⌜ (calm ≡ true → regionAt r ≡ Continuous) ⌝ }
+// The operating region of a reading. One in the enter-service range is in the continuous region.
+pub fn region(inside: bool, r: Reading) -> Region
+    requires { ⌜ (inside ≡ true → regionAt r ≡ Continuous) ⌝ }
     ensures { λ a. ⌜ a ≡ regionAt r ⌝ }
 {
-    if calm {
+    if inside {
         return Region::Continuous;
     }
     worst_region(r.low, r.high, r.frequency)

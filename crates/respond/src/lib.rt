@@ -4,14 +4,13 @@ ghost use mathlib.Core.Bool.{true, false};
 ghost use Prim.Native.Nat.{_-_, _≤_, min};
 ghost use lib.ListN.{length, drop};
 ghost use Rattle.rules.specs.Text.{hasFeed};
-ghost use Rattle.rules.specs.Transcripts.{inputEnd};
 ghost use Rattle.program.specs.States.{Fit, readsSheet};
 ghost use Rattle.respond.specs.Carrying.{begun, Carried, Stuck, Closed, Responds};
 
-pub mod sample_lines;
-pub mod sheet_lines;
-pub mod state;
-pub mod tail;
+mod sample_lines;
+mod sheet_lines;
+mod state;
+mod tail;
 
 use lines::put_refused;
 use program::State;

@@ -12,7 +12,6 @@ ghost use Rattle.rules.specs.Forms.{sampleForm};
 ghost use Rattle.rules.specs.Transcripts.{answerLine};
 ghost use Rattle.buffers.specs.Written.{Wrote};
 ghost use Rattle.sensing.specs.Tables.{IsTable};
-ghost use Rattle.readings.specs.Windows.{windowOf};
 ghost use Rattle.program.specs.States.{Fit};
 ghost use Rattle.program.specs.Responses.{lineRoom};
 ghost use Rattle.respond.specs.SampleLines.{withoutNumbers, formlessAt, lineAt, answerTo};
@@ -21,8 +20,6 @@ use crate::state::Handled;
 use lines::put_refused;
 use lines::put_report;
 use program::State;
-use readings::windows::Window;
-use readings::windows::window_of;
 use rules::Answer;
 use rules::Board;
 use rules::Refusal;
@@ -34,7 +31,7 @@ use text::line_end;
 use text::sample_at;
 use text::sample_form;
 
-// Settings are checked once for a block, not again for each of its samples.
+// Whether the settings are accepted: asked once for a block, and again for a sample only where they are not.
 fn accepted(s: Settings) -> bool
     ensures { λ r. ⌜ r ≡ settingsAccepted s ⌝ }
 {
@@ -117,6 +114,7 @@ fn refused_settings(b: Board, s: Settings) -> Stepped
             board: b,
             answer: Answer::Refused(cause),
         },
+        // Not reached: the settings are not accepted.
         SettingsCheck::Accepted => Stepped {
             board: b,
             answer: Answer::Refused(Refusal::Form),
@@ -125,15 +123,8 @@ fn refused_settings(b: Board, s: Settings) -> Stepped
 }
 
 // What a line with or without numbers makes of a board: a step, or the refusal of a line that has not its form.
-fn answer_to(
-    table: &[u16; 4096],
-    w: Window,
-    fine: bool,
-    b: Board,
-    s: Settings,
-    x: LineAt,
-) -> Stepped
-    requires { ⌜ (IsTable (now table)) × (w ≡ windowOf s) × (fine ≡ settingsAccepted s) ⌝ }
+fn answer_to(table: &[u16; 4096], fine: bool, b: Board, s: Settings, x: LineAt) -> Stepped
+    requires { ⌜ (IsTable (now table)) × (fine ≡ settingsAccepted s) ⌝ }
     ensures { λ r. ⌜ r ≡ answerTo b s x ⌝ }
 {
     if !x.found {
@@ -146,7 +137,7 @@ fn answer_to(
         return refused_settings(b, s);
     }
     let slice = x.slice;
-    step_accepted(table, w, b, s, &slice)
+    step_accepted(table, b, s, &slice)
 }
 
 // The line is ended, and there is room for its answer.
@@ -168,7 +159,6 @@ pub fn sample_lines(table: &[u16; 4096], h: Handled, s: &[u8], out: &mut [u8]) -
     let q = h.state;
     let settings = q.settings;
     let fine = accepted(settings);
-    let ordinary = window_of(settings);
     let form = sample_form();
     let mut board = q.board;
     let mut line = q.line;
@@ -180,7 +170,7 @@ pub fn sample_lines(table: &[u16; 4096], h: Handled, s: &[u8], out: &mut [u8]) -
         let x = line_at(&form, long, s, at);
         going = fits(x.ended, out.len() - w);
         if going {
-            let r = answer_to(table, ordinary, fine, board, settings, x);
+            let r = answer_to(table, fine, board, settings, x);
             let answer = r.answer;
             board = r.board;
             w = put_answer(out, w, answer, line);

@@ -34,7 +34,7 @@ pub fn start() -> State
     }
 }
 
-// Some input could lead to it.
+// Its counts are not out of reach of every input.
 pub fn sensible(q: State) -> bool
     ensures { λ r. ⌜ r ≡ sensible q ⌝ }
 {

@@ -94,7 +94,7 @@ made status counters bits ramp share watts vars =
     }
 
 module _ (s : Settings) (x : Slice) (n : List ℕ) (on : Bool) (area : Region) (bits ramp status share watts : ℕ) (vars : ℤ) where
-  pub settle-is : regionOf ourEquipment x ≡ area → Bits s x n bits
+  pub settle-is : regionOf ourEquipment x ≡ area → Bits s n bits
       → status ≡ statusOf on area (eqb ramp (s .ramp))
       → share ≡ 10000 * ramp / s .ramp
       → vars ≡ varsOf ourEquipment s x status
@@ -193,11 +193,11 @@ module _ (s : Settings) (x : Slice) (b : Board) (nine : length (b .counters) ≡
       e ∙ sym (counted-same x (rules ourEquipment s) (rulesAt (readingOf x) s) (b .counters) (same-rules s x))
       ∙ sym (counted-capped x (rules ourEquipment s) (b .counters))
 
-  pub bits-next : bits ≡ packedAfter 0 (each full (rulesAt (readingOf x) s) n) → Bits s x n bits
+  pub bits-next : bits ≡ packedAfter 0 (each full (rulesAt (readingOf x) s) n) → Bits s n bits
   bits-next e = e ∙ ap (packedAfter 0) (sym (full-same x (rules ourEquipment s) (rulesAt (readingOf x) s) n (same-rules s x)))
 
   pub advance-is : n ≡ each (counted []) (rulesAt (readingOf x) s) (b .counters)
-      → Bits s x n bits
+      → Bits s n bits
       → was ≡ inService (b .status)
       → ((trips : List Bool) (ready : Bool) → bits ≡ packedAfter 0 (trips ++ (ready ∷ [])) → on ≡ serves was (permitted x) (any trips) ready)
       → ramp ≡ ramped was on (isContinuous (regionOf ourEquipment x)) (s .ramp) (cond was (min (s .ramp) (b .ramp)) 0)

@@ -1,9 +1,8 @@
--- What a step makes of a record, as its parts promise it.
+-- Document 01, "One sample": what a step makes of a record, as its parts promise it.
 -- Assumes nothing.
 use mathlib.Core.Path.{_≡_}
 use mathlib.Core.List.{List}
 use Prim.Native.Nat.{ℕ}
-use Rattle.rules.specs.Samples.{Slice}
 use Rattle.rules.specs.Counters.{full, rules}
 use Rattle.rules.specs.Regions.{ourEquipment}
 use Rattle.rules.specs.Reports.{packedAfter, reportOf}
@@ -14,8 +13,8 @@ use Rattle.rules.specs.declared.Answer.{Answer}
 use Rattle.rules.specs.declared.Stepped.{Stepped}
 
 -- the bits are those of the counters
-abbrev pub Bits : Settings → Slice → List ℕ → ℕ → Type 0
-Bits s x counters bits = bits ≡ packedAfter 0 (each full (rules ourEquipment s) counters)
+abbrev pub Bits : Settings → List ℕ → ℕ → Type 0
+Bits s counters bits = bits ≡ packedAfter 0 (each full (rules ourEquipment s) counters)
 
 -- the record, and the report that it shows
 abbrev pub reported : Settings → Board → Stepped

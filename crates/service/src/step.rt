@@ -12,18 +12,15 @@ ghost use Rattle.rules.specs.Reports.{packedAfter};
 ghost use Rattle.rules.specs.Records.{fresh, settled, next, stepOf};
 ghost use Rattle.sensing.specs.Tables.{IsTable};
 ghost use Rattle.readings.specs.Readings.{readingOf, Exportable};
-ghost use Rattle.readings.specs.Windows.{windowOf};
 ghost use Rattle.service.specs.Steps.{Bits, reported};
 use crate::powers::powers_in;
 use readings::counters::Counters;
 use readings::counters::count_all;
+use readings::counters::in_range;
 use readings::reading::Reading;
 use readings::reading::check;
 use readings::reading::read;
 use readings::regions::region;
-use readings::windows::Window;
-use readings::windows::is_calm;
-use readings::windows::window_of;
 use rules::Answer;
 use rules::Board;
 use rules::Region;
@@ -132,7 +129,7 @@ fn share(ramp: u32, length: u32) -> u32
 // Rules 5 to 8: the record and the report, from the counters, in service, the region and the ramp count.
 fn settle(s: Settings, r: Reading, c: Counters, on: bool, area: Region, ramp: u32) -> Stepped
     requires { ⌜ (Exportable r s) × (ramp ≤ s .ramp) ⌝ }
-    ensures { λ t. ⌜ ((x : Slice) → readingOf x ≡ r → regionOf ourEquipment x ≡ area → Bits s x (c .n) (c .bits) → t ≡ reported s (settled ourEquipment s x (c .n) on ramp)) ⌝ }
+    ensures { λ t. ⌜ ((x : Slice) → readingOf x ≡ r → regionOf ourEquipment x ≡ area → Bits s (c .n) (c .bits) → t ≡ reported s (settled ourEquipment s x (c .n) on ramp)) ⌝ }
 {
     let length = s.ramp;
     let status = status_of(on, area, ramp == length);
@@ -160,23 +157,23 @@ fn settle(s: Settings, r: Reading, c: Counters, on: bool, area: Region, ramp: u3
 }
 
 // Rules 1 to 8, on what is read from an accepted sample.
-fn advance(w: Window, b: Board, s: Settings, r: Reading) -> Stepped
-    requires { ⌜ (Exportable r s) × (w ≡ windowOf s) ⌝ }
+fn advance(b: Board, s: Settings, r: Reading) -> Stepped
+    requires { ⌜ Exportable r s ⌝ }
     ensures { λ t. ⌜ ((x : Slice) → readingOf x ≡ r → t ≡ reported s (next ourEquipment s x b)) ⌝ }
 {
     let old = b.counters;
-    let calm = is_calm(w, r);
-    let c = count_all(calm, old, r, s);
+    let inside = in_range(r, s);
+    let c = count_all(inside, old, r, s);
     let was = in_service(b.status);
     let on = in_service_after(was, r.permit, c.bits);
-    let area = region(calm, r);
+    let area = region(inside, r);
     let ramp = ramp_after(was, on, is_continuous(area), s.ramp, b.ramp);
     settle(s, r, c, on, area, ramp)
 }
 
-// The step under settings that are accepted, with the sensing table lent and the settings' window: only the sample is checked.
-pub fn step_accepted(table: &[u16; 4096], w: Window, b: Board, s: Settings, x: &[u32]) -> Stepped
-    requires { ⌜ (IsTable (now table)) × (w ≡ windowOf s) × (settingsAccepted s ≡ true) ⌝ }
+// The step under settings that are accepted and with the sensing table lent: only the sample is checked.
+pub fn step_accepted(table: &[u16; 4096], b: Board, s: Settings, x: &[u32]) -> Stepped
+    requires { ⌜ (IsTable (now table)) × (settingsAccepted s ≡ true) ⌝ }
     ensures { λ t. ⌜ t ≡ stepOf ourEquipment b s (now (x .entry)) ⌝ }
 {
     match check(x) {
@@ -184,7 +181,7 @@ pub fn step_accepted(table: &[u16; 4096], w: Window, b: Board, s: Settings, x: &
             board: b,
             answer: Answer::Refused(cause),
         },
-        SampleCheck::Accepted => advance(w, b, s, read(table, x)),
+        SampleCheck::Accepted => advance(b, s, read(table, x)),
     }
 }
 
@@ -199,7 +196,7 @@ pub fn step(b: Board, s: Settings, x: &[u32]) -> Stepped
         },
         SettingsCheck::Accepted => {
             let t = table();
-            step_accepted(&t, window_of(s), b, s, x)
+            step_accepted(&t, b, s, x)
         }
     }
 }

@@ -1,4 +1,4 @@
--- A sample line's seven numbers: of a whole line, and of an ended line that stands at a place of a text.
+-- A sample line's seven numbers, of an ended line that stands at a place of a text.
 -- Assumes nothing.
 use mathlib.Core.Path.{_≡_, refl, sym, ap, _∙_}
 use mathlib.Core.Bool.{Bool, true, false, cond, not, false≢true}
@@ -16,7 +16,7 @@ use Rattle.formats.specs.Marks.{marks}
 use Rattle.formats.proofs.Forms.{line-written, suits-length}
 use Rattle.text.specs.Forms.{Formed, takeForm}
 use Rattle.text.specs.Places.{padded, MatchAt}
-use Rattle.text.specs.Lines.{numbersRead, sampleRead, endedSample, sampleAt}
+use Rattle.text.specs.Lines.{endedSample, sampleAt}
 use Rattle.text.specs.declared.form.Match.{Match}
 use Rattle.text.proofs.Whole.{whole, numbers-whole}
 use Rattle.text.proofs.Ended.{lineForm, form-line, form-plain, rest-feed, rest-length}
@@ -26,13 +26,6 @@ use Rattle.text.proofs.Ended.{lineForm, form-line, form-plain, rest-fee
 pub sample-seven : (line : List ℕ) (ns : List ℤ) → numbersOf sampleForm line ≡ some ns → take 7 (padded ns) ≡ ns
 unfolding sampleForm marks
 sample-seven line ns e = take-at ns (replicate (8 - length ns) (pos 0)) 7 (suits-length sampleForm ns (line-written sampleForm line ns e .suit))
-
--- ---- of a whole line
-
-pub read-sample : (line : List ℕ) (o : Option (List ℤ)) → numbersOf sampleForm line ≡ o
-    → record { found = numbersRead o .found; slice = map natAbs (take 7 (numbersRead o .n)) } ≡ sampleRead o
-read-sample line none e = refl
-read-sample line (some ns) e = rw (sample-seven line ns e)
 
 -- ---- of an ended line at a place
 

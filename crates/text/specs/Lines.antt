@@ -1,6 +1,6 @@
 -- The numbers of a whole line, and of a sample line that stands at a place of a text.
 -- Assumes nothing.
-use mathlib.Core.Bool.{Bool, true, false, cond}
+use mathlib.Core.Bool.{true, false, cond}
 use mathlib.Core.List.{List, map}
 use mathlib.Core.Option.{Option, none, some}
 use Prim.Native.Nat.{ℕ, _+_}
@@ -10,16 +10,11 @@ use Rattle.rules.specs.Text.{firstLine, hasFeed}
 use Rattle.rules.specs.Forms.{sampleForm, numbersOf}
 use Rattle.text.specs.Places.{padded}
 use Rattle.text.specs.declared.Numbers.{Numbers}
-use Rattle.text.specs.declared.SampleLine.{SampleLine}
 use Rattle.text.specs.declared.SampleAt.{SampleAt}
 
 abbrev pub numbersRead : Option (List ℤ) → Numbers
 numbersRead none = record { found = false; n = replicate 8 (pos 0) }
 numbersRead (some ns) = record { found = true; n = padded ns }
-
-abbrev pub sampleRead : Option (List ℤ) → SampleLine
-sampleRead none = record { found = false; slice = replicate 7 0 }
-sampleRead (some ns) = record { found = true; slice = map natAbs ns }
 
 -- the first line's numbers by the sample form, where the line is ended
 abbrev pub endedSample : List ℕ → Option (List ℤ)

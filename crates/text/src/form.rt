@@ -3,7 +3,7 @@ ghost use mathlib.Core.Path.{_≡_};
 ghost use Prim.Native.Nat.{_≤_};
 ghost use lib.ListN.{length, drop};
 ghost use Rattle.formats.specs.Marks.{isMark, marks};
-ghost use Rattle.text.specs.Forms.{formAt, takeForm};
+ghost use Rattle.text.specs.Forms.{takeForm};
 ghost use Rattle.text.specs.Places.{noMatch, MatchAt};
 use crate::number::marked_at;
 
@@ -29,7 +29,7 @@ fn no_match() -> Match
 fn is_mark(b: u8) -> bool
     ensures { λ r. ⌜ r ≡ isMark b ⌝ }
 {
-    b == 35 || b == 126
+    b == b'#' || b == b'~'
 }
 
 // The form at a place of a text.

@@ -9,7 +9,7 @@ ghost use Rattle.rules.specs.Text.{firstLine, hasFeed};
 ghost use Rattle.rules.specs.Forms.{sampleForm, numbersOf};
 ghost use Rattle.text.specs.Forms.{formAt, takeForm};
 ghost use Rattle.text.specs.Places.{MatchAt};
-ghost use Rattle.text.specs.Lines.{numbersRead, sampleRead, sampleAt};
+ghost use Rattle.text.specs.Lines.{numbersRead, sampleAt};
 
 mod form;
 mod near;
@@ -30,7 +30,7 @@ pub fn line_end(s: &[u8], from: usize) -> usize
 {
     let mut i = from;
     while i < s.len() {
-        if s[i] == 10 {
+        if s[i] == b'\n' {
             return i;
         }
         i += 1;
@@ -96,23 +96,6 @@ fn sample_slice(n: [i32; 8]) -> [u32; 7]
     slice
 }
 
-// A sample line's seven numbers; all 0 where the line has not its form.
-pub struct SampleLine {
-    pub found: bool,
-    pub slice: [u32; 7],
-}
-
-pub fn sample_line(line: &[u8]) -> SampleLine
-    ensures { λ r. ⌜ r ≡ sampleRead (numbersOf sampleForm (now (line .entry))) ⌝ }
-{
-    let read = form_numbers(13, line);
-    let n = read.n;
-    SampleLine {
-        found: read.found,
-        slice: sample_slice(n),
-    }
-}
-
 // A sample line that stands at a place of a text and is ended there, and the place after its line feed.
 pub struct SampleAt {
     pub found: bool,
@@ -137,7 +120,7 @@ pub fn sample_at(form: &[u8], s: &[u8], at: usize) -> SampleAt
     let n = m.n;
     if m.found {
         if next < s.len() {
-            if s[next] == 10 {
+            if s[next] == b'\n' {
                 return SampleAt {
                     found: true,
                     next: next + 1,

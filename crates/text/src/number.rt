@@ -36,13 +36,13 @@ fn digits_at(s: &[u8], at: usize) -> Digits
     let mut i = at;
     while i < end {
         let b = s[i];
-        if b < 48 {
+        if b < b'0' {
             return Digits { value, next: i };
         }
-        if b > 57 {
+        if b > b'9' {
             return Digits { value, next: i };
         }
-        value = value * 10 + ((b - 48) as u32);
+        value = value * 10 + ((b - b'0') as u32);
         i += 1;
     }
     Digits { value, next: i }
@@ -79,7 +79,7 @@ fn number_at(s: &[u8], at: usize) -> Number
         return no_number();
     }
     if count > 1 {
-        if s[at] == 48 {
+        if s[at] == b'0' {
             return no_number();
         }
     }
@@ -115,11 +115,11 @@ pub fn marked_at(mark: u8, s: &[u8], at: usize) -> Number
     requires { ⌜ at ≤ length (now s) ⌝ }
     ensures { λ r. ⌜ NumberAt (takeMarked mark (drop at (now (s .entry)))) (now (s .entry)) r ⌝ }
 {
-    if mark == 35 {
+    if mark == b'#' {
         return number_at(s, at);
     }
     if at < s.len() {
-        if s[at] == 45 {
+        if s[at] == b'-' {
             return negative_at(s, at + 1);
         }
     }

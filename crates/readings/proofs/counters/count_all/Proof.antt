@@ -1,5 +1,6 @@
 -- `readings::counters::count_all` meets its contract, from what its callees ensure.
 -- Assumes nothing.
+use mathlib.Core.Path.{sym, _∙_}
 use borrow.Author.Needs.{needs}
 use Rattle.readings.proofs.counters.count_all.Statement.{statement}
 use Rattle.readings.proofs.counters.count_all.Tie as tie
@@ -10,7 +11,7 @@ count-ninth-requires c κs = search needs
 returns : tie.Need-returns
 returns c =
     let a = c .before .before .args in
-    (c .count-ninth .ensures .0 (a .r) (c .before .before .pre .1 (c .before .if1 .taken)), c .count-ninth .ensures .1 (a .r))
+    (c .count-ninth .ensures .0 (a .r) (sym (c .before .before .pre .1) ∙ c .before .if1 .taken), c .count-ninth .ensures .1 (a .r))
 
 count-each-requires : tie.Need-count-each-requires
 count-each-requires c κs = search needs

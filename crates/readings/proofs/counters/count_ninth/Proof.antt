@@ -3,6 +3,7 @@
 use mathlib.Core.Path.{_≡_, sym}
 use mathlib.Core.Bool.{true}
 use lib.ListN.{length}
+use Rattle.readings.proofs.Ordinary.{ordinary}
 use Rattle.readings.proofs.Unbroken.{ninth-counted, ninth-marked}
 use borrow.Author.Needs.{needs}
 use Rattle.readings.proofs.counters.count_ninth.Statement.{statement}
@@ -30,7 +31,7 @@ returns c =
     let most = c .before .before .top in
     let n = c .before .count in
     let nine : length (a .t1) ≡ 9 = search needs in
-    (λ r k. ninth-counted r (a .s) (a .t1) nine (k .unbroken) true (most .result) (n .result) (sym (k .ready)) (most .ensures) (n .ensures), λ r. ninth-marked r (a .s) (start .pre) (most .result) (n .result) (c .marked .result) (most .ensures) (c .marked .ensures))
+    (λ r e. ninth-counted r (a .s) (a .t1) nine (ordinary r (a .s) (start .pre) e .unbroken) true (most .result) (n .result) (sym e) (most .ensures) (n .ensures), λ r. ninth-marked r (a .s) (start .pre) (most .result) (n .result) (c .marked .result) (most .ensures) (c .marked .ensures))
 
 pub count-ninth-spec : {M : Type 1} → statement M
 count-ninth-spec =

@@ -12,7 +12,7 @@ returns c = rw (not-true (c .before .before .args .x .found) (c .if1 .taken))
 refused-settings-requires : tie.Need-refused-settings-requires
 refused-settings-requires c κs =
     let start = c .before .before .before in
-    sym (start .pre .2) ∙ not-true (start .args .fine) (c .if2 .taken)
+    sym (start .pre .1) ∙ not-true (start .args .fine) (c .if2 .taken)
 
 returns-2 : tie.Need-returns-2
 returns-2 c =
@@ -25,7 +25,7 @@ slice-aggregate-step-accepted c = search needs
 step-accepted-requires : tie.Need-step-accepted-requires
 step-accepted-requires c κs =
     let start = c .before .before .before .before .before in
-    (start .pre .0, start .pre .1, sym (start .pre .2) ∙ not-false (start .args .fine) (c .before .before .if2 .left))
+    (start .pre .0, sym (start .pre .1) ∙ not-false (start .args .fine) (c .before .before .if2 .left))
 
 returns-3 : tie.Need-returns-3
 returns-3 c =

@@ -14,25 +14,22 @@ use Rattle.respond.proofs.sample_lines.sample_lines.Statement.{statemen
 use Rattle.respond.proofs.sample_lines.sample_lines.Tie as tie
 
 abbrev Inv-loop : tie.InvT-loop
-Inv-loop table h s out₀ q settings fine ordinary form board₀ line₀ long₀ at₀ w₀ going₀ out board line long at w going =
+Inv-loop table h s out₀ q settings fine form board₀ line₀ long₀ at₀ w₀ going₀ out board line long at w going =
     Going s out₀ h out (here h board line long at w) going
 
 abbrev μ-loop : tie.MeasureT-loop
-μ-loop table h s out₀ q settings fine ordinary form board₀ line₀ long₀ at₀ w₀ going₀ out board line long at w going =
+μ-loop table h s out₀ q settings fine form board₀ line₀ long₀ at₀ w₀ going₀ out board line long at w going =
     cond going (length s - at + 1) 0
 
 accepted-requires : tie.Need-accepted-requires Inv-loop μ-loop
 accepted-requires c κs = search needs
-
-window-of-requires : tie.Need-window-of-requires Inv-loop μ-loop
-window-of-requires c κs = search needs
 
 sample-form-requires : tie.Need-sample-form-requires Inv-loop μ-loop
 sample-form-requires c κs = search needs
 
 loop-holds : tie.Need-loop-holds Inv-loop μ-loop
 loop-holds c =
-    let a = c .before .before .before .before .before .before .before .before in
+    let a = c .before .before .before .before .before .before .before in
     beginning (now (a .args .s)) (now (a .args .out)) (a .args .h) (a .pre .1) (a .pre .2) (a .pre .3) (a .pre .4)
 
 slice-aggregate-line-at : tie.Need-slice-aggregate-line-at Inv-loop μ-loop
@@ -48,13 +45,12 @@ fits-requires : tie.Need-fits-requires Inv-loop μ-loop
 fits-requires c κs = search needs
 
 answer-to-requires : tie.Need-answer-to-requires Inv-loop μ-loop
-answer-to-requires c κs =
-    (c .before .before .before .before .before .before .before .before .before .before .before .before .before .before .pre .0, c .before .before .before .before .before .before .before .before .window-of .ensures, c .before .before .before .before .before .before .before .before .before .accepted .ensures)
+answer-to-requires c κs = (c .before .before .before .before .before .before .before .before .before .before .before .before .before .pre .0, c .before .before .before .before .before .before .before .before .accepted .ensures)
 
 put-answer-requires : tie.Need-put-answer-requires Inv-loop μ-loop
 put-answer-requires c κs =
     let w = c .before .before .before .before .before .before .before .before .loop in
-    let a = c .before .before .before .before .before .before .before .before .before .before .before .before .before .before .before .before .before .args in
+    let a = c .before .before .before .before .before .before .before .before .before .before .before .before .before .before .before .before .args in
     let s = now (a .s) in
     let d = now (a .out) in
     let before = subst (Going s d (a .h) (w .out) (here (a .h) (w .board) (w .line) (w .long) (w .at) (w .w))) (c .before .before .before .before .before .before .before .loop-test .taken) (w .inv) in
@@ -67,7 +63,7 @@ add-line c = let f = c .before .before .before .before .before .before .before .
 loop-less : tie.Need-loop-less Inv-loop μ-loop
 loop-less c =
     let w = c .before .before .before .before .before .before .before .before .before .before .before .loop in
-    let a = c .before .before .before .before .before .before .before .before .before .before .before .before .before .before .before .before .before .before .before .before .args in
+    let a = c .before .before .before .before .before .before .before .before .before .before .before .before .before .before .before .before .before .before .before .args in
     let s = now (a .s) in
     let d = now (a .out) in
     let before = subst (Going s d (a .h) (w .out) (here (a .h) (w .board) (w .line) (w .long) (w .at) (w .w))) (c .before .before .before .before .before .before .before .before .before .before .loop-test .taken) (w .inv) in
@@ -80,7 +76,7 @@ loop-less c =
 loop-again : tie.Need-loop-again Inv-loop μ-loop
 loop-again c =
     let w = c .before .before .before .before .before .before .before .before .before .before .before .loop in
-    let a = c .before .before .before .before .before .before .before .before .before .before .before .before .before .before .before .before .before .before .before .before .args in
+    let a = c .before .before .before .before .before .before .before .before .before .before .before .before .before .before .before .before .before .before .before .args in
     let s = now (a .s) in
     let d = now (a .out) in
     let before = subst (Going s d (a .h) (w .out) (here (a .h) (w .board) (w .line) (w .long) (w .at) (w .w))) (c .before .before .before .before .before .before .before .before .before .before .loop-test .taken) (w .inv) in
@@ -94,18 +90,18 @@ loop-less-2 c = rw (c .if1 .left, c .before .before .before .before .loop-test .
 loop-again-2 : tie.Need-loop-again-2 Inv-loop μ-loop
 loop-again-2 c =
     let w = c .before .before .before .before .before .loop in
-    let a = c .before .before .before .before .before .before .before .before .before .before .before .before .before .before .args in
+    let a = c .before .before .before .before .before .before .before .before .before .before .before .before .before .args in
     let s = now (a .s) in
     let d = now (a .out) in
     let before = subst (Going s d (a .h) (w .out) (here (a .h) (w .board) (w .line) (w .long) (w .at) (w .w))) (c .before .before .before .before .loop-test .taken) (w .inv) in
     let x = c .before .before .line-at in
     rw (c .if1 .left) (stops s d (a .h) (w .out) (w .board) (w .line) (w .long) (w .at) (w .w) before (x .result) (x .ensures) (sym (c .before .fits2 .ensures) ∙ c .if1 .left))
 
-sub-t28 : tie.Need-sub-t28 Inv-loop μ-loop
-sub-t28 c = c .before .before .loop .inv .carried .stands .later
+sub-t27 : tie.Need-sub-t27 Inv-loop μ-loop
+sub-t27 c = c .before .before .loop .inv .carried .stands .later
 
-add-t30 : tie.Need-add-t30 Inv-loop μ-loop
-add-t30 c = let t = c .before .before .before .loop .inv .carried .stands in omega (arith, t .fit .high)
+add-t29 : tie.Need-add-t29 Inv-loop μ-loop
+add-t29 c = let t = c .before .before .before .loop .inv .carried .stands in omega (arith, t .fit .high)
 
 same-length : tie.Need-same-length Inv-loop μ-loop
 same-length c = wrote-length (c .before .before .before .loop .inv .carried .wrote)
@@ -120,7 +116,6 @@ sample-lines-spec =
     Inv-loop
     μ-loop
     accepted-requires
-    window-of-requires
     sample-form-requires
     loop-holds
     slice-aggregate-line-at
@@ -134,7 +129,7 @@ sample-lines-spec =
     loop-again
     loop-less-2
     loop-again-2
-    sub-t28
-    add-t30
+    sub-t27
+    add-t29
     same-length
     returns)

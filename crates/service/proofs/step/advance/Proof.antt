@@ -14,19 +14,20 @@ use Rattle.rules.specs.Reports.{packedAfter}
 use Rattle.rules.specs.Records.{each}
 use Rattle.readings.specs.declared.reading.Reading.{Reading}
 use Rattle.readings.specs.Readings.{readingOf, rulesAt}
+use Rattle.readings.proofs.Ordinary.{ordinary}
 use Rattle.service.specs.Steps.{reported}
 use Rattle.service.proofs.Stepping.{ramp-top, region-of, bits-next, advance-is}
 use borrow.Author.Needs.{needs}
 use Rattle.service.proofs.step.advance.Statement.{statement}
 use Rattle.service.proofs.step.advance.Tie as tie
 
-is-calm-requires : tie.Need-is-calm-requires
-is-calm-requires c κs = search needs
+in-range-requires : tie.Need-in-range-requires
+in-range-requires c κs = search needs
 
 count-all-requires : tie.Need-count-all-requires
 count-all-requires c κs =
     let start = c .before .before in
-    (start .pre .0 .sheet, c .is-calm .ensures (start .args .s) (start .pre .1))
+    (start .pre .sheet, c .in-range .ensures)
 
 in-service-requires : tie.Need-in-service-requires
 in-service-requires c κs = search needs
@@ -37,7 +38,7 @@ in-service-after-requires c κs = search needs
 region-requires : tie.Need-region-requires
 region-requires c κs =
     let start = c .before .before .before .before .before in
-    λ t. c .before .before .before .is-calm .ensures (start .args .s) (start .pre .1) t .continuous
+    λ t. ordinary (start .args .r) (start .args .s) (start .pre .sheet) (sym (c .before .before .before .in-range .ensures) ∙ t) .continuous
 
 is-continuous-requires : tie.Need-is-continuous-requires
 is-continuous-requires c κs = search needs
@@ -47,7 +48,7 @@ ramp-after-requires c κs = search needs
 
 settle-requires : tie.Need-settle-requires
 settle-requires c κs =
-    (c .before .before .before .before .before .before .before .before .pre .0, rw (c .ramp-after .ensures) (ramp-top (c .before .before .before .before .in-service .result) (c .before .before .before .in-service-after .result) (c .before .is-continuous .result) (c .before .before .before .before .before .before .before .before .args .s .ramp) (c .before .before .before .before .before .before .before .before .args .b .ramp)))
+    (c .before .before .before .before .before .before .before .before .pre, rw (c .ramp-after .ensures) (ramp-top (c .before .before .before .before .in-service .result) (c .before .before .before .in-service-after .result) (c .before .is-continuous .result) (c .before .before .before .before .before .before .before .before .args .s .ramp) (c .before .before .before .before .before .before .before .before .args .b .ramp)))
 
 nine-counters : (c : tie.Start) → length (c .args .b .counters) ≡ 9
 nine-counters c = search needs
@@ -78,7 +79,7 @@ pub advance-spec : {M : Type 1} → statement M
 advance-spec =
     tie.close
     (tie.spec
-    is-calm-requires
+    in-range-requires
     count-all-requires
     in-service-requires
     in-service-after-requires

@@ -20,12 +20,9 @@ enum-told c = search needs
 table-requires : tie.Need-table-requires
 table-requires c κs = search needs
 
-window-of-requires : tie.Need-window-of-requires
-window-of-requires c κs = search needs
-
 step-accepted-requires : tie.Need-step-accepted-requires
 step-accepted-requires c κs =
-    (c .before .before .table .ensures, c .window-of .ensures, ap isAccepted (sym (c .before .before .before .before .before .check .ensures) ∙ c .before .before .before .enum-told .given .1))
+    (c .before .table .ensures, ap isAccepted (sym (c .before .before .before .before .check .ensures) ∙ c .before .before .enum-told .given .1))
 
 returns : tie.Need-returns
 returns c =
@@ -43,7 +40,6 @@ step-spec =
     enum-known-cause
     enum-told
     table-requires
-    window-of-requires
     step-accepted-requires
     returns
     returns-2)

@@ -30,19 +30,19 @@ advance-requires c κs =
     let s = c .before .before .before .before .before in
     let ok : sampleAccepted (now (s .args .x)) ≡ true = ap isAccepted (sym (c .before .before .before .check .ensures) ∙ c .before .enum-told .given .1) in
     let right = sample-right (now (s .args .x)) ok in
-    (rw (c .read .ensures) (record { sheet = s .pre .2; available-top = right .available-top; limit-top = right .limit-top }), s .pre .1)
+    rw (c .read .ensures) (record { sheet = s .pre .1; available-top = right .available-top; limit-top = right .limit-top })
 
 returns : tie.Need-returns
 returns c =
     let s = c .before .before .before .before .before in
-    sym (sample-refused (s .args .s) (now (s .args .x)) (s .args .b) _ (s .pre .2) (sym (c .before .before .before .check .ensures) ∙ c .before .cause .given .1))
+    sym (sample-refused (s .args .s) (now (s .args .x)) (s .args .b) _ (s .pre .1) (sym (c .before .before .before .check .ensures) ∙ c .before .cause .given .1))
 
 returns-2 : tie.Need-returns-2
 returns-2 c =
     let s = c .before .before .before .before .before .before in
     let ok : sampleAccepted (now (s .args .x)) ≡ true = ap isAccepted (sym (c .before .before .before .before .check .ensures) ∙ c .before .before .enum-told .given .1) in
     c .advance .ensures (now (s .args .x)) (sym (c .before .read .ensures))
-    ∙ sym (accepted-step ourEquipment (s .args .b) (s .args .s) (now (s .args .x)) (s .pre .2) ok)
+    ∙ sym (accepted-step ourEquipment (s .args .b) (s .args .s) (now (s .args .x)) (s .pre .1) ok)
 
 pub step-accepted-spec : {M : Type 1} → statement M
 step-accepted-spec =
