@@ -17,7 +17,7 @@ use Rattle.program.specs.States.{Fit, start, isDone}
 use Rattle.program.specs.Saying.{resume}
 use Rattle.program.specs.Responses.{budget, respondOf}
 use Rattle.program.specs.Sessions.{Session, Call, opened, called, during, ending, joined, cut, Roomy, TranscriptLaw}
-use Rattle.program.proofs.Fitting.{sensible-fit}
+use Rattle.program.proofs.Fitting.{sensible-fit, fit-sensible}
 use Rattle.program.proofs.Resuming.{done-resume}
 use Rattle.program.proofs.Ending.{doneAfter, done-unfed}
 use Rattle.program.proofs.Framing.{plain-cut}
@@ -141,6 +141,9 @@ module _ (e : Equipment) where
   good : (cs : List Call) → Good (after cs) (joined cs)
   good cs = good-during opened [] cs good-opened
 
+  at-end : (cs : List Call) (sizes : List ℕ) → Ended (ending e (after cs) sizes) (joined cs)
+  at-end cs sizes = ended-ending (after cs) (joined cs) sizes (good-ended (after cs) (joined cs) (good cs))
+
   nothing-more : (k : Session) (more : List ℕ) → isDone (k .state) ≡ true → k .text ++ still k more ≡ k .text
   nothing-more k more p = rw (done-resume e (k .state) (take (budget (k .state)) (k .left ++ more)) p) (append-nil (k .text))
 
@@ -156,8 +159,9 @@ module _ (e : Equipment) where
   pub transcript-law : TranscriptLaw e
   transcript-law =
       record {
-        done = λ cs sizes p. sym ((ended-ending (after cs) (joined cs) sizes (good-ended (after cs) (joined cs) (good cs))) .says ∙ nothing-more (ending e (after cs) sizes) [] p);
+        done = λ cs sizes p. sym (at-end cs sizes .says ∙ nothing-more (ending e (after cs) sizes) [] p);
         ends = λ cs sizes r h. all-done (after cs) sizes (good cs .fit) r h;
+        reached = λ cs sizes. fit-sensible (ending e (after cs) sizes .state) 0 (at-end cs sizes .fit);
         progress = λ q block last size fit going roomy fed. line-taken e q block last size (sensible-fit q fit) going roomy fed;
         handles = λ q block last size fit going room.
             (left-unfed e q block last size (sensible-fit q fit) going room, left-short e q block last size (sensible-fit q fit) going room);

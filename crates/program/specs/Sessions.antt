@@ -78,6 +78,9 @@ pub record TranscriptLaw (e : Equipment) : Type 0 where
   -- all is done after as many calls with room for a line as there are bytes left, and one
   pub ends : (cs : List Call) (sizes : List ℕ) → Roomy sizes → length (during e opened cs .left) < length sizes
       → isDone (ending e (during e opened cs) sizes .state) ≡ true
+  -- every state that calls lead to, while input comes (no sizes) or when it has ended, is a sensible one, so that what is said below of
+  -- a sensible state is said of it
+  pub reached : (cs : List Call) (sizes : List ℕ) → sensible (ending e (during e opened cs) sizes .state) ≡ true
   -- a whole line at hand is taken, where there is room for one
   pub progress : (q : State) (block : List ℕ) (last : Bool) (size : ℕ) → sensible q ≡ true → isDone q ≡ false → lineRoom ≤ size
       → hasFeed (take (budget q) block) ≡ true
