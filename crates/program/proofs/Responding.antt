@@ -6,7 +6,7 @@ use mathlib.Core.Bool.{Bool, true, false, cond, _||_, false≢true}
 use mathlib.Core.List.{List, [], _∷_, _++_}
 use Prim.Native.Nat.{ℕ, _+_, _-_, _≤_, _<_, min}
 use native.Mathlib.Omega.{arith}
-use borrow.Author.Tests.{leb-true, leb-false, le-ltb}
+use borrow.Author.Tests.{leb-true, leb-false, lt-ltb, le-ltb}
 use lib.Dec.{leb, ltb}
 use lib.ListN.{length, take, drop, length-take}
 use lib.Seq.{take-nil, take-all, take-take}
@@ -90,6 +90,15 @@ module _ (e : Equipment) (q : State) (block : List ℕ) (last : Bool) (size : �
 
   pub done-stays : isDone q ≡ true → answer ≡ begun
   done-stays p = answer-is ∙ handled-stops e ends size begun (linesIn s) (rw p)
+
+  -- ---- no room for a line, nothing is done
+
+  pub no-room : size < lineRoom → answer ≡ begun
+  no-room small = answer-is ∙ handled-stops e ends size begun (linesIn s) (by (isDone q))
+    where
+      by : (b : Bool) → (b || ltb size lineRoom) ≡ true
+      by true = refl
+      by false = lt-ltb size lineRoom small
 
   -- ---- progress
 

@@ -14,7 +14,7 @@ use Rattle.rules.specs.Transcripts.{linesIn, inputEnd, transcriptOf, transcript
 use Rattle.rules.specs.declared.Refusal.{Refusal}
 use Rattle.rules.specs.declared.SettingsCheck.{SettingsCheck}
 use Rattle.program.specs.States.{Fit, start, isDone}
-use Rattle.program.specs.Saying.{resume}
+use Rattle.program.specs.Saying.{Said, resume}
 use Rattle.program.specs.Responses.{budget, respondOf}
 use Rattle.program.specs.Sessions.{Session, Call, opened, called, during, ending, joined, cut, Roomy, TranscriptLaw}
 use Rattle.program.proofs.Fitting.{sensible-fit, fit-sensible}
@@ -22,7 +22,7 @@ use Rattle.program.proofs.Resuming.{done-resume}
 use Rattle.program.proofs.Ending.{doneAfter, done-unfed}
 use Rattle.program.proofs.Framing.{plain-cut}
 use Rattle.program.proofs.Transcripts.{resume-start, known-ends}
-use Rattle.program.proofs.Responding.{s, ends, fit-after, says, finishes, answers-taken, left-unfed, left-short, taken-low, taken-high, done-stays, line-taken, tail-closed}
+use Rattle.program.proofs.Responding.{s, ends, fit-after, says, finishes, answers-taken, left-unfed, left-short, taken-low, taken-high, done-stays, no-room, line-taken, tail-closed}
 
 module _ (e : Equipment) where
   -- what is to be said of the input that is left
@@ -162,6 +162,9 @@ module _ (e : Equipment) where
         done = λ cs sizes p. sym (at-end cs sizes .says ∙ nothing-more (ending e (after cs) sizes) [] p);
         ends = λ cs sizes r h. all-done (after cs) sizes (good cs .fit) r h;
         reached = λ cs sizes. fit-sensible (ending e (after cs) sizes .state) 0 (at-end cs sizes .fit);
+        idle = λ q block last size fit small.
+            let same = no-room e q block last size (sensible-fit q fit) small in
+            (ap (λ (h : Said). h .text) same, ap (λ (h : Said). h .state) same);
         progress = λ q block last size fit going roomy fed. line-taken e q block last size (sensible-fit q fit) going roomy fed;
         handles = λ q block last size fit going room.
             (left-unfed e q block last size (sensible-fit q fit) going room, left-short e q block last size (sensible-fit q fit) going room);

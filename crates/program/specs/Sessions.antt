@@ -81,6 +81,9 @@ pub record TranscriptLaw (e : Equipment) : Type 0 where
   -- every state that calls lead to, while input comes (no sizes) or when it has ended, is a sensible one, so that what is said below of
   -- a sensible state is said of it
   pub reached : (cs : List Call) (sizes : List ℕ) → sensible (ending e (during e opened cs) sizes .state) ≡ true
+  -- a call whose buffer has no room for a line writes nothing and takes nothing, at the input's end too: the state stays as it is
+  pub idle : (q : State) (block : List ℕ) (last : Bool) (size : ℕ) → sensible q ≡ true → size < lineRoom
+      → (respondOf e q block last size .text ≡ []) × (respondOf e q block last size .state ≡ q)
   -- a whole line at hand is taken, where there is room for one
   pub progress : (q : State) (block : List ℕ) (last : Bool) (size : ℕ) → sensible q ≡ true → isDone q ≡ false → lineRoom ≤ size
       → hasFeed (take (budget q) block) ≡ true
