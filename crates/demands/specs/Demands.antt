@@ -49,9 +49,9 @@ ours = ruledBy ourEquipment
 -- ---- the three demands
 
 -- Demand 1, for the library: `RefusesRightly` in claims/specs/FirstCause.antt. Checking settings, sensing, the step and the saving refuse with n
--- exactly when n is the first cause in document 01's order, accept input with none of the causes, and a refusal leaves the record and
--- every lent byte as they were. (That the operations stay inside their buffers and their arithmetic and end is part of each function's own
--- proof.)
+-- exactly when n is the first cause in document 01's order, accept input with none of the causes, and a refusal leaves the record's
+-- fields and every byte of a lent slice or buffer as they were. (That the operations stay inside their buffers and their arithmetic and
+-- end is part of each function's own proof.)
 abbrev pub OurRefusals : Type 0
 OurRefusals = RefusesRightly ourEquipment
 
@@ -64,8 +64,8 @@ OurSheetRefusals = SheetsRefusedRightly
 -- Demand 1, for the program: `TranscriptLaw` in program/specs/Sessions.antt. However an input is cut into blocks, and whatever buffers are lent,
 -- what `respond` writes, put together, is the transcript of the input's first 10^12 bytes (rules/specs/Transcripts.antt): a sheet's first
 -- refusal with its line, ending all; or an answer for each line after the sheet, refusals with their line numbers, an unended last
--- line and lines of any length among them. A call handles as many lines as are there and fit, and leaves no more bytes of a begun line than
--- the longest form has; among the samples it writes the answers to the lines that it takes, then and there; a refused sheet ends all
+-- line and lines of any length among them. A call handles as many lines as are there and fit, and leaves no more than 128 bytes of a
+-- begun line; among the samples it writes the answers to the lines that it takes, then and there; a refused sheet ends all
 -- as soon as its line has its line feed; and once the input has ended, as many calls as there are bytes left, and one, finish.
 abbrev pub OurTranscript : Type 0
 OurTranscript = TranscriptLaw ourEquipment

@@ -1,4 +1,4 @@
--- States that some input could lead to: lines and bytes are counted within the input's 10^12 bytes.
+-- Sensible states: lines and bytes are counted within the input's 10^12 bytes.
 -- Assumes nothing.
 use mathlib.Core.Path.{_≡_, refl, sym, ap, _∙_}
 use mathlib.Core.Bool.{Bool, true, false, cond, not, _&&_, _||_, false≢true}

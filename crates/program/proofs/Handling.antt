@@ -208,8 +208,8 @@ fits e ends size h s fit = fits-within e ends size (length s) h s (omega arith) 
 
 -- ---- what is left
 
--- where not all is done and there is room for a line more: the input does not end here, and no whole line is left, nor more bytes than
--- the longest form has
+-- where not all is done and there is room for a line more: the input does not end here, and no whole line is left, nor more
+-- than 128 bytes
 pub record Settled (ends : Bool) (h : Said) (s : List ℕ) (k : Said) : Type 0 where
   pub going-on : ends ≡ false
   pub unfed : hasFeed (drop (k .state .taken - h .state .taken) s) ≡ false

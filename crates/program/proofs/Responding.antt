@@ -1,5 +1,5 @@
--- One call of `respond`: what it says, and what is to be said of the rest, are together what was to be said; it leaves a state that
--- some input could lead to; and it makes progress.
+-- One call of `respond`: what it says, and what is to be said of the rest, are together what was to be said; it leaves a
+-- sensible state; and it makes progress.
 -- Assumes nothing.
 use mathlib.Core.Path.{_≡_, refl, sym, ap, ap₂, _∙_, subst}
 use mathlib.Core.Bool.{Bool, true, false, cond, _||_, false≢true}
@@ -151,7 +151,7 @@ module _ (e : Equipment) (q : State) (block : List ℕ) (last : Bool) (size : �
       by false true = refl
       by false false = refl
 
-  -- where there is room for a line and all is not done, no more bytes stand there than the longest form has
+  -- where there is room for a line and all is not done, no more than 128 bytes stand there
   pub nothing-taken : lineRoom ≤ size → isDone (answer .state) ≡ false → answer .state .taken - q .taken ≡ 0 → length block ≤ longest
   nothing-taken roomy going none = by-done (isDone q) refl (hasFeed s) refl ends refl
     where

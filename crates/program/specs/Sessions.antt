@@ -89,7 +89,7 @@ pub record TranscriptLaw (e : Equipment) : Type 0 where
       → hasFeed (take (budget q) block) ≡ true
       → q .taken + (length (firstLine (take (budget q) block)) + 1) ≤ respondOf e q block last size .state .taken
   -- as many lines are handled as are there and fit: where all is not done and there is room for a line more, no whole line is left,
-  -- and no more bytes than the longest form has, however long the line is
+  -- and no more than 128 bytes of a begun line, however long it is
   pub handles : (q : State) (block : List ℕ) (last : Bool) (size : ℕ) → sensible q ≡ true
       → isDone (respondOf e q block last size .state) ≡ false → length (respondOf e q block last size .text) + lineRoom ≤ size
       → (hasFeed (leftOf e q block last size) ≡ false) × (length (leftOf e q block last size) ≤ longest)

@@ -25,8 +25,8 @@ abbrev pub stopped : State → ℕ → State
 stopped q n =
     record { phase = 2; line = q .line; long = false; taken = q .taken + n; settings = q .settings; board = q .board }
 
--- a state whose counts some input could lead to: no more than the input's 10^12 bytes are taken, each line before this one took a
--- byte, and a sheet has thirteen lines
+-- a test of a state's counts, necessary and not sufficient for some input to lead to it: no more than the input's 10^12 bytes are taken,
+-- each line before this one took a byte, and a sheet has thirteen lines
 unfoldable pub sensible : State → Bool
 sensible q =
     leb 1 (q .line) && (leb (q .taken) inputEnd && (leb (q .line) (q .taken + 1) && (not (readsSheet q) || leb (q .line) 13)))
