@@ -17,7 +17,7 @@ use Rattle.demands.specs.Demands.{OurRefusals, OurSheetRefusals, OurTran
 use Rattle.demands.proofs.Edges.{edges-hold}
 use Rattle.demands.proofs.Writable.{accepted-writable}
 use Rattle.demands.proofs.Sound.{our-equipment-sound}
-use Rattle.demands.proofs.Shams.{early, invented, tripped, repeated, kept, refusing, no-ramp, no-ninth, no-bits}
+use Rattle.demands.proofs.Shams.{quick-accepted, waiting-accepted, early, invented, tripped, repeated, kept, refusing, no-ramp, no-ninth, no-bits}
 use Rattle.demands.proofs.ShamReadings.{turned-away, let-in}
 use Rattle.demands.proofs.ShamLines.{no-large, no-unended, no-return}
 
@@ -81,10 +81,10 @@ pub starredEdges : StarredEdges
 starredEdges = edges-hold
 
 pub shamsCaught : ShamsCaught
-shamsCaught = record { early = early; invented = invented; tripped = tripped; repeated = repeated; kept = kept; refusing = refusing }
+shamsCaught = record { accepted = quick-accepted; early = early; invented = invented; tripped = tripped; repeated = repeated; kept = kept; refusing = refusing }
 
 pub shamImagesCaught : ShamImagesCaught
-shamImagesCaught = record { ramp = no-ramp; ninth = no-ninth; bits = no-bits }
+shamImagesCaught = record { accepted = (quick-accepted, waiting-accepted); ramp = no-ramp; ninth = no-ninth; bits = no-bits }
 
 pub shamReadingsCaught : ShamReadingsCaught
 shamReadingsCaught = record { turnedAway = turned-away; unended = let-in; large = no-large; unendedSample = no-unended; carriageReturn = no-return }

@@ -32,9 +32,13 @@ use Rattle.demands.proofs.ShamReport.{agree-without-bits}
 abbrev quick : Settings
 quick = exampleSheet 0
 
-quick-accepted : settingsAccepted quick ≡ true
+pub quick-accepted : settingsAccepted quick ≡ true
 unfolding all rows inRow rising checkFrom linesOf settingsCheck
 quick-accepted = refl
+
+pub waiting-accepted : settingsAccepted (exampleSheet 2) ≡ true
+unfolding all rows inRow rising checkFrom linesOf settingsCheck
+waiting-accepted = refl
 
 abbrev calls : ℕ → ℕ → Call
 calls frequency permission = record { settings = quick; slice = 1000 ∷ 1000 ∷ 1000 ∷ frequency ∷ permission ∷ 10000 ∷ 10000 ∷ [] }

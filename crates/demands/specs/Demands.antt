@@ -17,6 +17,7 @@ use mathlib.Core.Bool.{true}
 use mathlib.Core.List.{List, _∷_}
 use Prim.Native.Nat.{ℕ, _*_, _≤_}
 use Rattle.rules.specs.Sensing.{lastCode, voltage}
+use Rattle.rules.specs.Settings.{settingsAccepted}
 use Rattle.rules.specs.Samples.{Slice, Equipment, sampleAccepted}
 use Rattle.rules.specs.Counters.{Rule}
 use Rattle.rules.specs.Regions.{ourEquipment}
@@ -162,8 +163,10 @@ StarredEdges = EdgesHold
 
 -- ---- the demands are not empty: shams do not meet them
 
--- The sham boards of document 01 do not meet demand 2 on its own example sheet: some list of calls tells each of them from ours.
+-- The sham boards of document 01 do not meet demand 2 on its own example sheet: some list of calls tells each of them from ours. That sheet
+-- is accepted, so that demand 2, which speaks of every accepted sheet, is false of each of them.
 pub record ShamsCaught : Type 0 where
+  pub accepted : settingsAccepted (exampleSheet 0) ≡ true
   pub early : ¬ TripAndReturn ourEquipment tripsEarly (exampleSheet 0)
   pub invented : ¬ TripAndReturn ourEquipment inventsCounters (exampleSheet 0)
   pub tripped : ¬ TripAndReturn ourEquipment alwaysTripped (exampleSheet 0)
@@ -172,8 +175,9 @@ pub record ShamsCaught : Type 0 where
   pub refusing : ¬ TripAndReturn ourEquipment turnsAway (exampleSheet 0)
 
 -- Demand 3 is false of an image with 0 in the ramp count's place and of one with 0 in the ninth counter's: equal images, different later
--- reports; and of a report whose bits are always 0: equal reports, different images.
+-- reports; and of a report whose bits are always 0: equal reports, different images. Each on an example sheet, which is accepted.
 pub record ShamImagesCaught : Type 0 where
+  pub accepted : (settingsAccepted (exampleSheet 0) ≡ true) × (settingsAccepted (exampleSheet 2) ≡ true)
   pub ramp : ¬ TwoHistoriesBy savedWithoutRamp (historyReport ourEquipment) ours (exampleSheet 0)
   pub ninth : ¬ TwoHistoriesBy savedWithoutNinth (historyReport ourEquipment) ours (exampleSheet 2)
   pub bits : ¬ TwoHistoriesBy savedInto reportWithoutBits ours (exampleSheet 0)
