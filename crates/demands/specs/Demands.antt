@@ -66,8 +66,9 @@ OurSheetRefusals = SheetsRefusedRightly
 -- what `respond` writes, put together, is the transcript of the input's first 10^12 bytes (rules/specs/Transcripts.antt): a sheet's first
 -- refusal with its line, ending all; or an answer for each line after the sheet, refusals with their line numbers, an unended last
 -- line and lines of any length among them. A call handles as many lines as are there and fit, and leaves no more than 128 bytes of a
--- begun line; among the samples it writes the answers to the lines that it takes, then and there; a refused sheet ends all
--- as soon as its line has its line feed; and once the input has ended, as many calls as there are bytes left, and one, finish.
+-- begun line; among the samples it writes the answers to the lines that it takes, then and there, the call that takes the sheet's last
+-- line too; a refused sheet ends all as soon as its line has its line feed; and once the input has ended, as many calls as there are
+-- bytes left, and one, finish.
 abbrev pub OurTranscript : Type 0
 OurTranscript = TranscriptLaw ourEquipment
 

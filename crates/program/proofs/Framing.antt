@@ -3,10 +3,12 @@
 use mathlib.Core.Path.{_≡_, refl, sym, ap, ap₂, _∙_}
 use mathlib.Core.Bool.{Bool, true, false, cond, _||_, false≢true}
 use mathlib.Core.List.{List, [], _∷_, _++_, append-assoc, append-nil}
-use Prim.Native.Nat.{ℕ, zero, suc}
+use Prim.Native.Nat.{ℕ, zero, suc, _+_}
+use native.Mathlib.Omega.{arith}
+use borrow.Author.Tests.{eqb-true}
 use lib.Dec.{eqb}
-use lib.ListN.{take}
-use lib.Seq.{append-snoc}
+use lib.ListN.{length, take}
+use lib.Seq.{append-snoc, take-append-add}
 use Rattle.rules.specs.Text.{feed, firstLine, hasFeed, afterLine}
 use Rattle.rules.specs.Transcripts.{Line, ended, unended, lastLine, linesAfter, linesIn}
 
@@ -99,3 +101,37 @@ plain-cut (suc n) (b ∷ s) e = by (eqb b feed) e (plain-cut n s)
     by : (k : Bool) → (k || hasFeed s) ≡ false → (hasFeed s ≡ false → hasFeed (take n s) ≡ false) → (k || hasFeed (take n s)) ≡ false
     by true p rec = absurd (false≢true (sym p))
     by false p rec = rec p
+
+-- ---- the first line with its line feed, and more of what follows
+
+split : (s : List ℕ) → hasFeed s ≡ true → s ≡ firstLine s ++ (feed ∷ afterLine s)
+unfolding hasFeed firstLine afterLine
+split [] p = absurd (false≢true p)
+split (b ∷ s) p = by (eqb b feed) refl p (split s)
+  where
+    by : (k : Bool) → eqb b feed ≡ k → (k || hasFeed s) ≡ true → (hasFeed s ≡ true → s ≡ firstLine s ++ (feed ∷ afterLine s))
+        → b ∷ s ≡ cond k [] (b ∷ firstLine s) ++ (feed ∷ cond k s (afterLine s))
+    by true e q rec = ap (λ (n : ℕ). n ∷ s) (eqb-true b feed e)
+    by false e q rec = ap (λ (l : List ℕ). b ∷ l) (rec q)
+
+pub line-plain : (s : List ℕ) → hasFeed (firstLine s) ≡ false
+unfolding hasFeed firstLine
+line-plain [] = refl
+line-plain (b ∷ s) = by (eqb b feed) refl (line-plain s)
+  where
+    by : (k : Bool) → eqb b feed ≡ k → hasFeed (firstLine s) ≡ false → hasFeed (cond k [] (b ∷ firstLine s)) ≡ false
+    by true e rec = refl
+    by false e rec = rw e rec
+
+pub lines-line : (l rest : List ℕ) → hasFeed l ≡ false → linesIn (l ++ (feed ∷ rest)) ≡ ended l ∷ linesIn rest
+unfolding hasFeed firstLine afterLine
+lines-line l rest p =
+    lines-fed (l ++ (feed ∷ rest)) (feed-past-plain l (feed ∷ rest) p)
+    ∙ rw (line-past-plain l (feed ∷ rest) p, after-past-plain l (feed ∷ rest) p, append-nil l)
+
+-- so many bytes: the first line with its line feed, and m bytes more
+pub take-line : (s : List ℕ) (m : ℕ) → hasFeed s ≡ true → take (length (firstLine s) + 1 + m) s ≡ firstLine s ++ (feed ∷ take m (afterLine s))
+take-line s m f =
+    let l = firstLine s in
+    let n : length l + 1 + m ≡ length l + suc m = omega arith in
+    ap (λ (k : ℕ). take k s) n ∙ ap (take (length l + suc m)) (split s f) ∙ take-append-add l (feed ∷ afterLine s) (suc m)

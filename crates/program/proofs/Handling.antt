@@ -7,18 +7,18 @@ use Prim.Native.Nat.{ℕ, zero, suc, _+_, _-_, _≤_, _<_}
 use native.Mathlib.Omega.{arith}
 use borrow.Author.Tests.{ltb-false}
 use lib.Dec.{ltb}
-use lib.ListN.{length, drop, length-drop}
-use lib.Seq.{drop-length, drop-drop}
+use lib.ListN.{length, take, drop, length-drop}
+use lib.Seq.{take-length, drop-length, drop-drop}
 use Rattle.rules.specs.Samples.{Equipment}
-use Rattle.rules.specs.Text.{firstLine, hasFeed, afterLine}
+use Rattle.rules.specs.Text.{feed, firstLine, hasFeed, afterLine}
 use Rattle.rules.specs.Transcripts.{Line, linesIn, lastLine}
 use Rattle.text.proofs.Lines.{line-after, line-ended}
-use Rattle.program.specs.States.{Fit, isDone, stopped}
+use Rattle.program.specs.States.{Fit, isDone, readsSheet, stopped}
 use Rattle.program.specs.Saying.{Said, said, endText, resume}
 use Rattle.program.specs.Responses.{longest, stops, andSaid, closed, dropped, atTail, handled}
 use Rattle.program.specs.declared.State.{State}
-use Rattle.program.proofs.Framing.{lines-fed, lines-unfed, feed-front, line-front, after-front}
-use Rattle.program.proofs.Resuming.{resume-fed, resume-unfed, done-resume, said-taken, droppedFrom, dropped-resume}
+use Rattle.program.proofs.Framing.{lines-fed, lines-unfed, line-plain, take-line, feed-front, line-front, after-front}
+use Rattle.program.proofs.Resuming.{resume-fed, resume-unfed, resume-line, done-resume, said-taken, droppedFrom, dropped-resume}
 use Rattle.program.proofs.Ending.{doneAfter, done-fed, done-done, done-dropped}
 use Rattle.program.proofs.Fitting.{fit-less, fit-stopped, fit-said}
 
@@ -46,12 +46,15 @@ module _ (e : Equipment) (ends : Bool) (size : ℕ) where
   handled-stops h (Rattle.rules.specs.Transcripts.Line.ended l ∷ ls) p = rw p
   handled-stops h (Rattle.rules.specs.Transcripts.Line.unended l ∷ ls) p = rw p
 
--- from h, with the bytes s of a block before it and `more` after the block, to k
+-- from h, with the bytes s of a block before it and `more` after the block, to k; `took` is of the bytes that are taken, whatever comes
+-- after them, where not all is done
 pub record Keeps (e : Equipment) (h : Said) (s more : List ℕ) (k : Said) : Type 0 where
   pub low : h .state .taken ≤ k .state .taken
   pub high : k .state .taken ≤ h .state .taken + length s
   pub says : h .text ++ resume e (h .state) (s ++ more) ≡ k .text ++ resume e (k .state) (drop (k .state .taken - h .state .taken) s ++ more)
   pub finish : doneAfter e (h .state) (linesIn (s ++ more)) ≡ true → doneAfter e (k .state) (linesIn (drop (k .state .taken - h .state .taken) s ++ more)) ≡ true
+  pub took : (t : List ℕ) → (isDone (k .state) ≡ true → t ≡ []) → h .text ++ resume e (h .state) (take (k .state .taken - h .state .taken) s ++ t) ≡ k .text ++ resume e (k .state) t
+  pub on : readsSheet (h .state) ≡ false → readsSheet (k .state) ≡ false
 
 stays : (e : Equipment) (h : Said) (s more : List ℕ) → Keeps e h s more h
 stays e h s more =
@@ -60,6 +63,8 @@ stays e h s more =
       high = omega arith;
       says = rw (drop-none (h .state .taken) s);
       finish = λ p. rw (drop-none (h .state .taken) s) p;
+      took = λ t n. let z : h .state .taken - h .state .taken ≡ 0 = omega arith in rw z;
+      on = λ p. p;
     }
 
 no-feed : hasFeed [] ≡ false
@@ -71,11 +76,14 @@ no-feed = refl
 module _ (e : Equipment) (h : Said) (s more : List ℕ) (plain : hasFeed s ≡ false) where
   keeps-closed : more ≡ [] → Keeps e h s more (closed h s)
   keeps-closed none =
+      let all : h .state .taken + length s - h .state .taken ≡ length s = omega arith in
       record {
         low = omega arith;
         high = omega arith;
         says = rw (none, append-nil s, resume-unfed e (h .state) s plain, done-resume e (stopped (h .state) (length s)) _ refl) (sym (append-nil _));
         finish = λ p. done-done e (stopped (h .state) (length s)) (linesIn (drop (h .state .taken + length s - h .state .taken) s ++ more)) refl;
+        took = λ t n. rw (n refl, all, take-length s, append-nil s, resume-unfed e (h .state) s plain, done-resume e (stopped (h .state) (length s)) [] refl) (sym (append-nil _));
+        on = λ p. refl;
       }
 
   keeps-dropped : (h .state .long || ltb longest (length s)) ≡ true → Keeps e h s more (dropped h s)
@@ -86,6 +94,8 @@ module _ (e : Equipment) (h : Said) (s more : List ℕ) (plain : hasFeed s ≡ f
         high = omega arith;
         says = rw (all, drop-length s) (ap (λ (t : List ℕ). h .text ++ t) (dropped-resume e (h .state) s (h .state .long) refl long more plain));
         finish = λ p. rw (all, drop-length s) (sym (done-dropped e (h .state) s more long plain) ∙ p);
+        took = λ t n. rw (all, take-length s) (ap (λ (l : List ℕ). h .text ++ l) (dropped-resume e (h .state) s (h .state .long) refl long t plain));
+        on = λ p. p;
       }
 
   keeps-tail : (ends : Bool) → (ends ≡ true → more ≡ []) → Keeps e h s more (atTail ends h s)
@@ -132,6 +142,21 @@ module _ (e : Equipment) (h : Said) (s more : List ℕ) (fed : hasFeed s ≡ tru
   one-finish p =
       rw (← after-front s more fed, ← line-front s more fed) (sym (done-fed e (h .state) (s ++ more) (feed-front s more fed)) ∙ p)
 
+  one-took : (k : Said) (t : List ℕ) → next .state .taken ≤ k .state .taken
+      → h .text ++ resume e (h .state) (take (k .state .taken - h .state .taken) s ++ t) ≡ next .text ++ resume e (next .state) (take (k .state .taken - next .state .taken) (afterLine s) ++ t)
+  one-took k t low =
+      let m = k .state .taken - next .state .taken in
+      let n : k .state .taken - h .state .taken ≡ length line + 1 + m = omega (arith, next-taken) in
+      let x = take m (afterLine s) in
+      ap (λ (l : List ℕ). h .text ++ resume e (h .state) (l ++ t)) (ap (λ (i : ℕ). take i s) n ∙ take-line s m fed)
+      ∙ ap (λ (l : List ℕ). h .text ++ resume e (h .state) l) (append-assoc line (feed ∷ x) t)
+      ∙ ap (λ (l : List ℕ). h .text ++ l) (resume-line e (h .state) line (x ++ t) (line-plain s))
+      ∙ sym (append-assoc (h .text) (said e (h .state) line .text) (resume e (next .state) (x ++ t)))
+
+  one-on : readsSheet (h .state) ≡ false → readsSheet (next .state) ≡ false
+  unfolding said
+  one-on p = rw (going, p) refl
+
   keeps-line : (k : Said) → Keeps e next (afterLine s) more k → Keeps e h s more k
   keeps-line k r =
       record {
@@ -139,6 +164,8 @@ module _ (e : Equipment) (h : Said) (s more : List ℕ) (fed : hasFeed s ≡ tru
         high = omega (arith, next-taken, r .high, after-length);
         says = one-says ∙ r .says ∙ ap (λ (t : List ℕ). k .text ++ resume e (k .state) (t ++ more)) (left-is k (r .low));
         finish = λ p. rw (← left-is k (r .low)) (r .finish (one-finish p));
+        took = λ t n. one-took k t (r .low) ∙ r .took t n;
+        on = λ p. r .on (one-on p);
       }
 
 -- ---- the whole block

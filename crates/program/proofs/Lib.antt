@@ -4,7 +4,6 @@ pub mod Ending
 pub mod Fitting
 pub mod Handling
 pub mod Transcripts
-pub mod Answering
 pub mod Cuts
 pub mod Responding
 pub mod Sessions

@@ -3,25 +3,24 @@
 -- Assumes nothing.
 use mathlib.Core.Path.{_≡_, refl, sym, ap, ap₂, _∙_, subst}
 use mathlib.Core.Bool.{Bool, true, false, cond, _||_, false≢true}
-use mathlib.Core.List.{List, [], _∷_, _++_}
+use mathlib.Core.List.{List, [], _∷_, _++_, append-nil}
 use Prim.Native.Nat.{ℕ, _+_, _-_, _≤_, _<_, min}
 use native.Mathlib.Omega.{arith}
 use borrow.Author.Tests.{leb-true, leb-false, lt-ltb, le-ltb}
-use lib.Dec.{leb, ltb}
+use lib.Dec.{leb, ltb, eqb}
 use lib.ListN.{length, take, drop, length-take}
 use lib.Seq.{take-nil, take-all, take-take}
 use Rattle.rules.specs.Samples.{Equipment}
 use Rattle.rules.specs.Text.{firstLine, hasFeed, afterLine}
 use Rattle.rules.specs.Transcripts.{linesIn, answersFrom, inputEnd}
-use Rattle.program.specs.States.{Fit, isDone, stopped, readState}
+use Rattle.program.specs.States.{Fit, isDone, readsSheet, stopped, readState}
 use Rattle.program.specs.Saying.{Said, said, resume}
 use Rattle.program.specs.Responses.{lineRoom, longest, stops, andSaid, closed, dropped, handled, budget, respondOf}
 use Rattle.program.specs.declared.State.{State}
 use Rattle.program.proofs.Cuts.{take-both, rest-cut}
 use Rattle.program.proofs.Fitting.{fit-less, fit-read}
-use Rattle.program.proofs.Resuming.{said-taken}
-use Rattle.program.proofs.Answering.{answers}
-use Rattle.program.proofs.Transcripts.{sampling}
+use Rattle.program.proofs.Resuming.{said-taken, resume-none}
+use Rattle.program.proofs.Transcripts.{sampling, resume-samples}
 use Rattle.program.proofs.Ending.{doneAfter}
 use Rattle.program.proofs.Handling.{Keeps, keeps, Settled, settled, fits, handled-fed, handled-unfed, handled-stops}
 
@@ -85,6 +84,13 @@ module _ (e : Equipment) (q : State) (block : List ℕ) (last : Bool) (size : �
     pub finishes : doneAfter e q (linesIn (take (budget q) (block ++ more))) ≡ true
         → doneAfter e (answer .state) (linesIn (take (budget (answer .state)) (drop (answer .state .taken - q .taken) block ++ more))) ≡ true
     finishes p = rw (← left-cut) (kept .finish (rw (← take-both (budget q) block more) p))
+
+  -- the bytes that are taken, whatever comes after them where not all is done
+  pub took : (t : List ℕ) → (isDone (answer .state) ≡ true → t ≡ []) → resume e q (take (answer .state .taken - q .taken) block ++ t) ≡ answer .text ++ resume e (answer .state) t
+  took t n =
+      let k = kept [] (λ p. refl) in
+      let same = take-take (answer .state .taken - q .taken) (budget q) block (omega (arith, k .high, s-length)) in
+      ap (λ (l : List ℕ). resume e q (l ++ t)) (sym same) ∙ k .took t n
 
   -- ---- all done, it stays so
 
@@ -169,12 +175,12 @@ module _ (e : Equipment) (q : State) (block : List ℕ) (last : Bool) (size : �
     q-is =
         ap₂ (λ (p : ℕ) (l : Bool). record { phase = p; line = q .line; long = l; taken = q .taken; settings = q .settings; board = q .board }) samples whole
 
-    answer-there : answer ≡ handled e ends size (record { state = sampling (q .settings) (q .board) (q .line) (q .taken); text = [] }) (linesIn s)
-    answer-there = answer-is ∙ ap (λ (k : State). handled e ends size (record { state = k; text = [] }) (linesIn s)) q-is
-
     pub answers-taken : answer .text ≡ answersFrom e (q .settings) (q .board) (q .line) (linesIn (take (answer .state .taken - q .taken) block))
     answers-taken =
-        let k = kept [] (λ p. refl) in
-        let got : answer .text ≡ answersFrom e (q .settings) (q .board) (q .line) (linesIn (take (answer .state .taken - q .taken) s))
-        = subst (λ (a : Said). a .state .long ≡ false → a .text ≡ answersFrom e (q .settings) (q .board) (q .line) (linesIn (take (a .state .taken - q .taken) s))) (sym answer-there) (answers e (q .settings) ends size (q .board) (q .line) (q .taken) s) left-whole in
-        got ∙ ap (λ (l : List ℕ). answersFrom e (q .settings) (q .board) (q .line) (linesIn l)) (take-take (answer .state .taken - q .taken) (budget q) block (omega (arith, k .high, s-length)))
+        let l = take (answer .state .taken - q .taken) block in
+        let reads : readsSheet q ≡ false = ap (λ (p : ℕ). eqb p 0) samples in
+        sym (append-nil (answer .text))
+        ∙ sym (took [] (λ p. refl) ∙ ap (λ (t : List ℕ). answer .text ++ t) (resume-none e (answer .state) (kept [] (λ p. refl) .on reads) left-whole))
+        ∙ ap (resume e q) (append-nil l)
+        ∙ ap (λ (k : State). resume e k l) q-is
+        ∙ resume-samples e (q .settings) (q .board) (q .line) (q .taken) l

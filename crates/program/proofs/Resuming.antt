@@ -12,7 +12,7 @@ use lib.IntN.{ℤ}
 use lib.ListN.{length, length-append}
 use Rattle.rules.specs.Samples.{Equipment}
 use Rattle.rules.specs.Forms.{sheetForms, sampleForm, numbersOf}
-use Rattle.rules.specs.Text.{firstLine, hasFeed, afterLine}
+use Rattle.rules.specs.Text.{feed, firstLine, hasFeed, afterLine}
 use Rattle.rules.specs.Transcripts.{Line, ended, unended, lastLine, linesIn, refusedLine, onSampleNumbers}
 use Rattle.rules.specs.declared.Settings.{Settings}
 use Rattle.rules.specs.declared.Refusal.the-variants.{Form, Sample}
@@ -25,7 +25,7 @@ use borrow.Author.Tests.{ltb-true}
 use Rattle.program.specs.States.{isDone, readsSheet, stopped}
 use Rattle.program.specs.Saying.{Said, numbersIn, onCheck, onRead, sheetLine, onStepped, sampleLine, said, isSome, endText, following, resume}
 use Rattle.program.specs.declared.State.{State}
-use Rattle.program.proofs.Framing.{lines-fed, lines-unfed, feed-past-plain, line-past-plain, after-past-plain}
+use Rattle.program.proofs.Framing.{lines-fed, lines-unfed, lines-line, feed-past-plain, line-past-plain, after-past-plain}
 
 module _ (e : Equipment) where
   pub resume-fed : (q : State) (s : List ℕ) → hasFeed s ≡ true
@@ -37,6 +37,10 @@ module _ (e : Equipment) where
   unfolding following
   resume-unfed q [] p = ap (following e q) (lines-unfed [] p)
   resume-unfed q (b ∷ s) p = ap (following e q) (lines-unfed (b ∷ s) p)
+
+  pub resume-line : (q : State) (l s : List ℕ) → hasFeed l ≡ false → resume e q (l ++ (feed ∷ s)) ≡ said e q l .text ++ resume e (said e q l .state) s
+  unfolding following
+  resume-line q l s p = ap (following e q) (lines-line l s p)
 
   -- ---- all done
 
@@ -56,6 +60,16 @@ module _ (e : Equipment) where
 
   pub done-resume : (q : State) (s : List ℕ) → isDone q ≡ true → resume e q s ≡ []
   done-resume q s p = done-following q (linesIn s) p
+
+  -- ---- nothing more comes, and no line has begun
+
+  pub resume-none : (q : State) → readsSheet q ≡ false → q .long ≡ false → resume e q [] ≡ []
+  unfolding hasFeed endText
+  resume-none q p whole = resume-unfed q [] refl ∙ rw (p, whole) (by (isDone q))
+    where
+      by : (b : Bool) → _≡_ {A = List ℕ} (cond b [] []) []
+      by true = refl
+      by false = refl
 
   -- ---- the bytes a line takes
 

@@ -5,8 +5,9 @@ use mathlib.Core.Bool.{Bool, true, false, cond, _||_, false≢true}
 use mathlib.Core.List.{List, [], _∷_, _++_, append-assoc, append-nil}
 use Prim.Native.Nat.{ℕ, zero, suc, _+_, _-_, _≤_, _<_}
 use native.Mathlib.Omega.{arith}
-use lib.ListN.{length, take, drop, length-append, length-drop}
-use lib.Seq.{drop-append-seam}
+use borrow.Author.Tests.{ne-eqb}
+use lib.ListN.{length, take, drop, length-append, length-take, length-drop, take-append-drop}
+use lib.Seq.{take-all, take-at, drop-append-seam}
 use Rattle.rules.specs.Samples.{Equipment}
 use Rattle.rules.specs.Text.{hasFeed, firstLine}
 use Rattle.rules.specs.Sheets.{readSheet}
@@ -18,11 +19,11 @@ use Rattle.program.specs.Saying.{Said, resume}
 use Rattle.program.specs.Responses.{budget, respondOf}
 use Rattle.program.specs.Sessions.{Session, Call, opened, called, during, ending, joined, cut, Roomy, TranscriptLaw}
 use Rattle.program.proofs.Fitting.{sensible-fit, fit-sensible}
-use Rattle.program.proofs.Resuming.{done-resume}
+use Rattle.program.proofs.Resuming.{done-resume, resume-none}
 use Rattle.program.proofs.Ending.{doneAfter, done-unfed}
 use Rattle.program.proofs.Framing.{plain-cut}
 use Rattle.program.proofs.Transcripts.{resume-start, known-ends}
-use Rattle.program.proofs.Responding.{s, ends, fit-after, says, finishes, answers-taken, left-unfed, left-short, taken-low, taken-high, done-stays, no-room, line-taken, tail-closed}
+use Rattle.program.proofs.Responding.{s, ends, fit-after, says, took, finishes, answers-taken, left-unfed, left-short, taken-low, taken-high, done-stays, no-room, line-taken, tail-closed}
 
 module _ (e : Equipment) where
   -- what is to be said of the input that is left
@@ -98,6 +99,88 @@ module _ (e : Equipment) where
   ended-ending k input [] g = g
   ended-ending k input (size ∷ sizes) g = ended-ending (called e true k (closing size)) input sizes (ended-called k input size g)
 
+  -- ---- the bytes that were taken
+
+  record Took (k : Session) (input : List ℕ) : Type 0 where
+    pub bytes : List ℕ
+    pub splits : input ≡ bytes ++ k .left
+    pub counts : length bytes ≡ k .state .taken
+    pub fit : Fit (k .state) 0
+    pub says : (t : List ℕ) → (isDone (k .state) ≡ true → t ≡ []) → transcriptOf e (bytes ++ t) ≡ k .text ++ resume e (k .state) t
+
+  took-opened : Took opened []
+  unfolding start
+  took-opened =
+      record {
+        bytes = [];
+        splits = refl;
+        counts = refl;
+        fit = good-opened .fit;
+        says = λ t n. sym (resume-start e t);
+      }
+
+  module _ (k : Session) (input : List ℕ) (c : Call) (last : Bool) (g : Took k input) where
+    abbrev whole : List ℕ
+    whole = k .left ++ c .bytes
+
+    abbrev then : Session
+    then = called e last k c
+
+    abbrev more : List ℕ
+    more = take (then .state .taken - k .state .taken) whole
+
+    more-splits : input ++ c .bytes ≡ (g .bytes ++ more) ++ then .left
+    more-splits =
+        ap (λ (l : List ℕ). l ++ c .bytes) (g .splits)
+        ∙ append-assoc (g .bytes) (k .left) (c .bytes)
+        ∙ ap (λ (l : List ℕ). g .bytes ++ l) (sym (take-append-drop (then .state .taken - k .state .taken) whole))
+        ∙ sym (append-assoc (g .bytes) more (then .left))
+
+    more-counts : length (g .bytes ++ more) ≡ then .state .taken
+    more-counts =
+        omega (arith, length-append (g .bytes) more, length-take (then .state .taken - k .state .taken) whole, g .counts, taken-low e (k .state) whole last (c .size) (g .fit) [] (λ p. refl), taken-high e (k .state) whole last (c .size) (g .fit) [] (λ p. refl))
+
+    -- all done, nothing more is taken
+    none-more : (t : List ℕ) → (isDone (then .state) ≡ true → t ≡ []) → isDone (k .state) ≡ true → more ++ t ≡ []
+    none-more t n p =
+        let same = done-stays e (k .state) whole last (c .size) (g .fit) p in
+        let z : then .state .taken - k .state .taken ≡ 0 = omega (arith, ap (λ (h : Said). h .state .taken) same) in
+        rw z (n (ap (λ (h : Said). isDone (h .state)) same ∙ p))
+
+    took-called : Took then (input ++ c .bytes)
+    took-called =
+        record {
+          bytes = g .bytes ++ more;
+          splits = more-splits;
+          counts = more-counts;
+          fit = fit-after e (k .state) whole last (c .size) (g .fit);
+          says = λ t n.
+              ap (transcriptOf e) (append-assoc (g .bytes) more t)
+              ∙ g .says (more ++ t) (none-more t n)
+              ∙ ap (λ (l : List ℕ). k .text ++ l) (took e (k .state) whole last (c .size) (g .fit) t n)
+              ∙ sym (append-assoc (k .text) (respondOf e (k .state) whole last (c .size) .text) (resume e (then .state) t));
+        }
+
+  took-during : (k : Session) (input : List ℕ) (cs : List Call) → Took k input → Took (during e k cs) (input ++ joined cs)
+  unfolding during joined
+  took-during k input [] g = subst (Took k) (sym (append-nil input)) g
+  took-during k input (c ∷ cs) g =
+      subst (Took (during e (called e false k c) cs)) (append-assoc input (c .bytes) (joined cs)) (took-during (called e false k c) (input ++ c .bytes) cs (took-called k input c false g))
+
+  took-ending : (k : Session) (input : List ℕ) (sizes : List ℕ) → Took k input → Took (ending e k sizes) input
+  unfolding ending
+  took-ending k input [] g = g
+  took-ending k input (size ∷ sizes) g =
+      took-ending (called e true k (closing size)) input sizes (subst (Took (called e true k (closing size))) (append-nil input) (took-called k input (closing size) true g))
+
+  -- the sheet is read, and no begun line is dropped
+  took-text : (k : Session) (input : List ℕ) → Took k input → 1 ≤ k .state .phase → k .state .long ≡ false → k .text ≡ transcript e (take (k .state .taken) input)
+  unfolding transcript
+  took-text k input g p whole =
+      let cutting : take inputEnd (take (k .state .taken) input) ≡ g .bytes ++ [] = ap (take inputEnd) (ap (take (k .state .taken)) (g .splits) ∙ take-at (g .bytes) (k .left) (k .state .taken) (g .counts)) ∙ take-all inputEnd (g .bytes) (omega (arith, g .counts, g .fit .high)) ∙ sym (append-nil (g .bytes)) in
+      let quiet = resume-none e (k .state) (ne-eqb (k .state .phase) 0 (λ z. omega arith)) whole in
+      sym (ap (transcriptOf e) cutting ∙ g .says [] (λ z. refl) ∙ ap (λ (l : List ℕ). k .text ++ l) quiet ∙ append-nil (k .text))
+
   -- ---- enough calls
 
   -- a call that leaves something to do leaves fewer bytes
@@ -169,6 +252,7 @@ module _ (e : Equipment) where
         handles = λ q block last size fit going room.
             (left-unfed e q block last size (sensible-fit q fit) going room, left-short e q block last size (sensible-fit q fit) going room);
         answers = λ q block last size fit samples whole left. answers-taken e q block last size (sensible-fit q fit) samples whole left;
+        written = λ cs sizes p whole. took-text (ending e (after cs) sizes) (joined cs) (took-ending (after cs) (joined cs) sizes (took-during opened [] cs took-opened)) p whole;
         refused = λ cs cause n c f left. ends-known cs cause n c f left;
         begins = λ cs more. good cs .says more ∙ ap (λ (l : List ℕ). after cs .text ++ l) (sym (ap (drop (length (after cs .text))) (good cs .says more) ∙ drop-append-seam (after cs .text) (still (after cs) more)));
         early = λ cs more p. good cs .says more ∙ nothing-more (after cs) more p;

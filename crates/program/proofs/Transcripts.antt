@@ -82,6 +82,9 @@ samples-within e st (suc k) b n t s low =
     by true p rest = sample-fed e st b n t s p (rest p)
     by false p rest = sample-unfed e st b n t s p
 
+pub resume-samples : (e : Equipment) (st : Settings) (b : Board) (n t : ℕ) (s : List ℕ) → resume e (sampling st b n t) s ≡ answersFrom e st b n (linesIn s)
+resume-samples e st b n t s = samples-within e st (length s) b n t s (omega arith)
+
 -- ---- the sheet
 
 -- i lines are read, and the next begins at a place
@@ -163,7 +166,7 @@ module _ (e : Equipment) (s : List ℕ) (i at : ℕ) (lines : List (List Pair)) 
 sheet-done : (e : Equipment) (s : List ℕ) (at : ℕ) (lines : List (List Pair)) (i : ℕ) → i ≡ 13
     → resume e (record { phase = 1; line = i + 1; long = false; taken = at; settings = settingsOf lines; board = fresh }) (drop at s) ≡ to-the-end e s (from s i at lines)
 sheet-done e s at lines i is =
-    samples-within e (settingsOf lines) (length (drop at s)) fresh (i + 1) at (drop at s) (omega arith)
+    resume-samples e (settingsOf lines) fresh (i + 1) at (drop at s)
     ∙ rw is refl
     ∙ sym (ap (to-the-end e s) (from-end s i at lines (omega arith)))
 

@@ -98,6 +98,11 @@ pub record TranscriptLaw (e : Equipment) : Type 0 where
   pub answers : (q : State) (block : List ℕ) (last : Bool) (size : ℕ) → sensible q ≡ true → q .phase ≡ 1 → q .long ≡ false
       → respondOf e q block last size .state .long ≡ false
       → respondOf e q block last size .text ≡ answersFrom e (q .settings) (q .board) (q .line) (linesIn (takenOf e q block last size))
+  -- once the sheet is read, or all is done, and where no begun line is dropped: what was written is the transcript of the bytes that were
+  -- taken. So the call that takes the sheet's last line answers the samples that it takes after it, then and there, too
+  pub written : (cs : List Call) (sizes : List ℕ) → 1 ≤ ending e (during e opened cs) sizes .state .phase
+      → ending e (during e opened cs) sizes .state .long ≡ false
+      → ending e (during e opened cs) sizes .text ≡ transcript e (take (ending e (during e opened cs) sizes .state .taken) (joined cs))
   -- a refused sheet ends all as soon as its line is known: the refused line has its line feed, and no whole line is left
   pub refused : (cs : List Call) (cause : Refusal) (n : ℕ) → readSheet (cut cs) .check ≡ SettingsCheck.Refused cause n
       → hasFeed (drop (readSheet (cut cs) .start) (cut cs)) ≡ true → hasFeed (during e opened cs .left) ≡ false
