@@ -1,7 +1,7 @@
 -- Demand 2, as a claim about any program that could be called a board.
 -- Assumes nothing.
 use mathlib.Core.Path.{_≡_}
-use mathlib.Core.Bool.{Bool, true, false}
+use mathlib.Core.Bool.{true, false}
 use mathlib.Core.Logic.{_⊎_, _↔_}
 use mathlib.Core.List.{List, [], _∷_, _++_, map}
 use Prim.Native.Nat.{ℕ, min}
@@ -18,7 +18,7 @@ use Rattle.rules.specs.declared.Settings.{Settings}
 use Rattle.rules.specs.declared.Board.{Board}
 use Rattle.rules.specs.declared.Answer.{Answer}
 use Rattle.rules.specs.declared.Region.the-variants.{Continuous}
-use Rattle.claims.specs.Calls.{Call, Program, Run, called, runOf, callAccepted, heard, LendsUnder, Under}
+use Rattle.claims.specs.Calls.{Call, Program, called, runOf, callAccepted, heard, LendsUnder, Under}
 use Rattle.claims.specs.Held.{Held, RanOut, WaitFull}
 use Rattle.claims.specs.FirstCause.{first, settingsCauses, sampleCauses}
 

@@ -1,9 +1,9 @@
 -- A report without bits does not meet demand 3: a limit's counter of a tripped board shows in its bit alone, since a return clears it.
 -- Assumes nothing.
-use mathlib.Core.Path.{_≡_, refl, sym, ap, ap₂, _∙_, subst}
-use mathlib.Core.Bool.{Bool, true, false, cond, true≢false, false≢true}
+use mathlib.Core.Path.{_≡_, refl, sym, ap, ap₂, _∙_}
+use mathlib.Core.Bool.{Bool, true, false, cond, false≢true}
 use mathlib.Core.List.{List, [], _∷_, _++_, map}
-use Prim.Native.Nat.{ℕ, suc, _≤_, max, min}
+use Prim.Native.Nat.{ℕ, suc, max}
 use native.Mathlib.Omega.{arith}
 use lib.Dec.{leb}
 use lib.IntN.{ℤ}
@@ -12,10 +12,10 @@ use Rattle.rules.specs.Tests.{any, within}
 use Rattle.rules.specs.Settings.{settingsAccepted, limitAt}
 use Rattle.rules.specs.Samples.{Slice, Equipment, permitted, frequency, lowest, highest}
 use Rattle.rules.specs.Counters.{Kind, undervoltage, overvoltage, underfrequency, overfrequency, kinds, broken, inRange, limitRules, readyRule}
-use Rattle.rules.specs.Regions.{regionOf, isContinuous, ourEquipment}
-use Rattle.rules.specs.Service.{serves, statusOf, shareOf, varsOf, wattsOf}
+use Rattle.rules.specs.Regions.{ourEquipment}
+use Rattle.rules.specs.Service.{serves, varsOf, wattsOf}
 use Rattle.rules.specs.Reports.{Items}
-use Rattle.rules.specs.History.{History, followedBy, streak, complete, serving, climbedMore, climbed, historyStatus, historyShare, historyWatts, historyVars, historyReport}
+use Rattle.rules.specs.History.{History, followedBy, streak, complete, serving, climbed, historyStatus, historyShare, historyWatts, historyVars, historyReport}
 use Rattle.rules.specs.declared.Settings.{Settings}
 use Rattle.claims.specs.TwoHistories.{AgreeBy}
 use Rattle.laws.proofs.Bools.{at-all, within-true}

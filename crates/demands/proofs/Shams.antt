@@ -10,7 +10,7 @@ use lib.ListN.{getD, replicate}
 use Rattle.rules.specs.Tests.{all, any, within}
 use Rattle.rules.specs.Sensing.{largest, voltage}
 use Rattle.rules.specs.Settings.{rows, inRow, rising, checkFrom, linesOf, settingsCheck, settingsAccepted}
-use Rattle.rules.specs.Samples.{Slice, sampleCheck}
+use Rattle.rules.specs.Samples.{sampleCheck}
 use Rattle.rules.specs.Counters.{broken, inRange}
 use Rattle.rules.specs.Regions.{voltageRegion, frequencyRegion, regionOf, ourEquipment}
 use Rattle.rules.specs.Curves.{curveFrom, curve, nameplate}

@@ -11,7 +11,6 @@ use Rattle.rules.specs.Counters.{undervoltage, overvoltage, broken}
 use Rattle.rules.specs.Regions.{regionOf, ourEquipment}
 use Rattle.rules.specs.Curves.{curve, nameplate}
 use Rattle.rules.specs.Defaults.{defaultSettings}
-use Rattle.rules.specs.declared.Settings.{Settings}
 use Rattle.rules.specs.declared.Region.{Region}
 use Rattle.rules.specs.declared.Region.the-variants.{Momentary, Cease}
 

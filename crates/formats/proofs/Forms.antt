@@ -11,7 +11,7 @@ use lib.Dec.{leb, eqb}
 use lib.IntN.{ℤ, pos, negsuc}
 use lib.ListN.{length, getD, length-append}
 use Rattle.rules.specs.Tests.{all, within}
-use Rattle.rules.specs.Text.{isDigit, decimal, signedDecimal, Taken, takeNumber, takeSigned}
+use Rattle.rules.specs.Text.{isDigit, signedDecimal, Taken, takeNumber, takeSigned}
 use Rattle.rules.specs.Forms.{numberMark, signedMark, sheetForms, sampleForm, andThen, onTaken, onByte, numbersOf}
 use Rattle.formats.specs.Marks.{isMark, marks, takeMarked, numberThen, written, fits, fitsThen, suits, IsLine, lineForms, lineForm, ReadsForms}
 use Rattle.formats.proofs.Digits.{both, NoDigit, empty, other}

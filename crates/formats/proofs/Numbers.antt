@@ -9,7 +9,7 @@ use native.Mathlib.Omega.{arith}
 use native.Mathlib.Decide.{decLe}
 use native.Mathlib.Nat.{zero-add}
 use borrow.Author.Tests.{lt-ltb, leb-true, le-leb, eqb-true, ne-eqb}
-use lib.Dec.{leb, ltb, eqb}
+use lib.Dec.{leb, eqb}
 use lib.IntN.{ℤ, pos, negsuc}
 use lib.ListN.{length, getD, length-append, List·getD-append}
 use Rattle.rules.specs.Text.{minus, leadingDigits, afterDigits, valueAfter, wellFormed, digitsBefore, decimal, signedDecimal, Taken, takeNumber, negated, takeSigned}

@@ -11,7 +11,7 @@ use lib.IntN.{ℤ, pos, natAbs}
 use lib.ListN.{length}
 use Rattle.rules.specs.Tests.{all, within}
 use Rattle.rules.specs.Settings.{Pair, Row, rows, inRow, rising, checkFrom, linesOf, settingsCheck}
-use Rattle.rules.specs.Refusals.{refusalNumber, settingsNumber, sampleNumber, answerNumber}
+use Rattle.rules.specs.Refusals.{settingsNumber, sampleNumber, answerNumber}
 use Rattle.rules.specs.Samples.{Slice, Equipment, codeOf, frequency, permission, available, operatorLimit, unless, sampleCheck}
 use Rattle.rules.specs.Records.{turnedAway, onSample, onSettings, stepOf}
 use Rattle.rules.specs.Transcripts.{Line, ended, unended, onSampleNumbers, lineStep}

@@ -1,16 +1,15 @@
 -- What an accepted sheet and an accepted sample tell: each number is in its row.
 -- Assumes nothing.
-use mathlib.Core.Path.{_≡_, refl, sym, ap, _∙_, subst}
-use mathlib.Core.Bool.{Bool, true, false, cond, _&&_, false≢true}
+use mathlib.Core.Path.{_≡_, refl}
+use mathlib.Core.Bool.{Bool, true, false, cond, false≢true}
 use mathlib.Core.List.{List, [], _∷_, map}
-use Prim.Native.Nat.{ℕ, zero, suc, _+_, _≤_, _<_}
+use Prim.Native.Nat.{ℕ, zero, suc, _≤_, _<_}
 use native.Mathlib.Nat.{not-suc-le-zero, le-of-suc-le-suc}
 use native.Mathlib.Omega.{arith}
-use lib.Dec.{leb, eqb}
 use lib.IntN.{pos}
 use lib.ListN.{length, getD}
 use borrow.Author.Tests.{leb-true, eqb-true}
-use Rattle.rules.specs.Tests.{all, within}
+use Rattle.rules.specs.Tests.{all}
 use Rattle.rules.specs.Sensing.{lastCode}
 use Rattle.rules.specs.Settings.{Pair, pair, Row, row, rows, inRow, rising, checkFrom, linesOf, settingsCheck, isAccepted, settingsAccepted, limitAt}
 use Rattle.rules.specs.Samples.{Slice, codeOf, frequency, permission, available, operatorLimit, unless, sampleCheck, sampleAccepted}

@@ -1,22 +1,22 @@
 -- The curves of an accepted sheet: allowed points, their voltages rising, and no negative watts.
 -- Assumes nothing.
 use mathlib.Core.Path.{_≡_}
-use mathlib.Core.Bool.{Bool, true, _&&_, false≢true}
+use mathlib.Core.Bool.{true, false≢true}
 use mathlib.Core.List.{List, [], _∷_, map}
-use Prim.Native.Nat.{ℕ, suc, _≤_, _<_}
+use Prim.Native.Nat.{_≤_}
 use native.Mathlib.Omega.{arith}
-use lib.Dec.{T, leb, ltb}
+use lib.Dec.{T}
 use lib.IntN.{ℤ, pos, negsuc, negℤ, natAbs}
 use lib.ListN.{getD}
 use lib.Signed.{leZ, ltZ, nonNeg}
 use borrow.Author.Tests.{leb-true, ltb-true}
 use Rattle.rules.specs.Tests.{all}
-use Rattle.rules.specs.Settings.{Pair, Row, row, rows, inRow, rising, linesOf, settingsAccepted, pointPair}
+use Rattle.rules.specs.Settings.{Row, row, rows, inRow, rising, linesOf, settingsAccepted, pointPair}
 use Rattle.rules.specs.declared.Point.{Point}
 use Rattle.rules.specs.declared.Settings.{Settings}
 use Rattle.laws.proofs.Bools.{both, at-all}
-use Rattle.laws.proofs.Accepted.{LineRight, sheet-line}
-use Rattle.power.specs.Points.{Allowed, RisesFrom, Rises, Powers, NonNegative}
+use Rattle.laws.proofs.Accepted.{sheet-line}
+use Rattle.power.specs.Points.{Allowed, RisesFrom, Rises, NonNegative}
 
 -- a row that allows only such points as a curve may have
 abbrev Allows : Row → Type 0

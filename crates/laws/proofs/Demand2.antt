@@ -2,7 +2,7 @@
 -- Assumes nothing.
 use mathlib.Core.Path.{_≡_, refl, sym, ap, ap₂, _∙_}
 use mathlib.Core.Bool.{Bool, true, false, cond, _&&_, false≢true, true≢false}
-use mathlib.Core.Logic.{_⊎_, ⊎-elim, _↔_}
+use mathlib.Core.Logic.{⊎-elim}
 use mathlib.Core.List.{List, [], _∷_, _++_, map}
 use Prim.Native.Nat.{ℕ, suc, _*_, _/_, min, max}
 use native.Mathlib.Nat.{min-zero, zero-div}
@@ -11,30 +11,27 @@ use lib.IntN.{pos}
 use borrow.Author.Tests.{lt-leb}
 use Rattle.rules.specs.Tests.{within}
 use Rattle.rules.specs.Settings.{settingsCheck, isAccepted, settingsAccepted, limitAt}
-use Rattle.rules.specs.Samples.{Slice, Equipment, permitted, sampleCheck, sampleAccepted}
+use Rattle.rules.specs.Samples.{Slice, Equipment, sampleCheck, sampleAccepted}
 use Rattle.rules.specs.Samples as samples
 use Rattle.rules.specs.Counters.{Rule, Kind, kinds, limitRules, readyRule}
-use Rattle.rules.specs.Regions.{regionOf}
-use Rattle.rules.specs.Service.{statusOf, inService}
+use Rattle.rules.specs.Service.{inService}
 use Rattle.rules.specs.Reports.{Items, packedAfter, reportOf}
 use Rattle.rules.specs.Records.{fresh, next, shown, turnedAway, onSample, onSettings, stepOf}
 use Rattle.rules.specs.History.{History, streak, complete, serving, climbed, historyStatus, historyShare, historyWatts, historyVars, historyReport}
 use Rattle.rules.specs.declared.Settings.{Settings}
 use Rattle.rules.specs.declared.Board.{Board}
 use Rattle.rules.specs.declared.Report.{Report}
-use Rattle.rules.specs.declared.Region.the-variants.{Continuous}
 use Rattle.rules.specs.declared.Refusal.{Refusal}
 use Rattle.rules.specs.declared.SettingsCheck.{SettingsCheck}
 use Rattle.rules.specs.declared.SampleCheck.{SampleCheck}
 use Rattle.rules.specs.declared.Answer.{Answer}
 use Rattle.rules.specs.declared.Stepped.{Stepped}
-use Rattle.claims.specs.Calls.{Call, Program, Run, ruledBy, freshReport, lastReport, called, calledAll, runOf, callAccepted, heardOne, heardAfter, heard, LendsUnder, Under}
-use Rattle.claims.specs.Held.{RanOut, WaitFull}
+use Rattle.claims.specs.Calls.{Call, Run, ruledBy, freshReport, lastReport, called, calledAll, runOf, callAccepted, heardOne, heardAfter, heard, LendsUnder, Under}
 use Rattle.claims.specs.Sound.{Sound}
 use Rattle.claims.specs.TripAndReturn.{recordOf, Next, TripAndReturn, CounterRule, Demand2}
 use Rattle.laws.proofs.Bools.{both}
 use Rattle.laws.proofs.Limits.{LimitsIn, limits-in}
-use Rattle.laws.proofs.Trace.{service-status, service-is, status-is, next-is, shown-is}
+use Rattle.laws.proofs.Trace.{service-is, status-is, next-is, shown-is}
 use Rattle.laws.proofs.Counting.{counted-is, full-is}
 use Rattle.laws.proofs.Trip.{complete-held, trip-law, return-law, return-even}
 use Rattle.laws.proofs.FirstCause.{step-number}

@@ -1,10 +1,9 @@
 -- Demand 3 holds of the board by document 01's rules, for any sound equipment.
 -- Assumes nothing.
 use mathlib.Core.Path.{_≡_, refl, sym, ap, _∙_, subst}
-use mathlib.Core.Bool.{Bool, true, false, cond, _&&_}
-use mathlib.Core.List.{List, [], _∷_, _++_, map}
-use mathlib.Core.Logic.{_↔_}
-use Prim.Native.Nat.{ℕ, zero, suc, _≤_, _<_, min, zero-le}
+use mathlib.Core.Bool.{Bool, true, false, cond}
+use mathlib.Core.List.{List, [], _∷_, map}
+use Prim.Native.Nat.{ℕ, _≤_, _<_, zero-le}
 use native.Mathlib.Omega.{arith}
 use lib.IntN.{ℤ, pos, negsuc, natAbs}
 use lib.ListN.{length, take, drop}
@@ -19,7 +18,7 @@ use Rattle.rules.specs.Curves.{curve}
 use Rattle.rules.specs.Service.{inService, exports, varsOf, least, wattsOf}
 use Rattle.rules.specs.Reports.{Items}
 use Rattle.rules.specs.Records.{next, shown}
-use Rattle.rules.specs.History.{History, followedBy, serving, climbed, historyStatus, historyShare, historyWatts, historyVars, historyReport}
+use Rattle.rules.specs.History.{History, followedBy, serving, historyStatus, historyShare, historyWatts, historyVars, historyReport}
 use Rattle.rules.specs.Images.{image, imageLength, savedInto}
 use Rattle.rules.specs.declared.Settings.{Settings}
 use Rattle.rules.specs.declared.Board.{Board}

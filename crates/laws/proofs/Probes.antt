@@ -4,23 +4,23 @@ use mathlib.Core.Path.{_≡_, refl, sym, ap, ap₂, _∙_, subst}
 use mathlib.Core.Bool.{Bool, true, false}
 use mathlib.Core.Logic.{_⊎_, inl, inr, ⊎-elim}
 use mathlib.Core.List.{List, [], _∷_, _++_, map}
-use Prim.Native.Nat.{ℕ, zero, suc, _+_, _≤_, _<_, min}
+use Prim.Native.Nat.{ℕ, zero, suc, _+_, _≤_, min}
 use native.Mathlib.Omega.{arith}
 use lib.Dec.{leb, ltb}
 use lib.ListN.{length, replicate, length-replicate}
 use borrow.Author.Tests.{ltb-true, ltb-false, lt-ltb, le-ltb, le-leb}
-use Rattle.rules.specs.Tests.{all, within}
+use Rattle.rules.specs.Tests.{all}
 use Rattle.rules.specs.Sensing.{lastCode}
 use Rattle.rules.specs.Settings.{settingsAccepted, limitAt}
-use Rattle.rules.specs.Samples.{Slice, Equipment, codeOf, frequency, lowest, highest, sampleCheck, sampleAccepted}
-use Rattle.rules.specs.Counters.{Rule, Kind, undervoltage, overvoltage, underfrequency, overfrequency, kinds, broken, inRange, limitRule, limitRules, readyRule, rules}
+use Rattle.rules.specs.Samples.{Slice, Equipment, lowest, highest, sampleCheck, sampleAccepted}
+use Rattle.rules.specs.Counters.{Rule, Kind, undervoltage, overvoltage, underfrequency, overfrequency, kinds, broken, inRange, limitRules, readyRule, rules}
 use Rattle.rules.specs.History.{History, followedBy, streak, complete}
 use Rattle.rules.specs.declared.Settings.{Settings}
 use Rattle.claims.specs.Sound.{Sound}
 use Rattle.claims.specs.TripAndReturn.{countOf}
 use Rattle.claims.specs.TwoHistories.{AllAccepted}
 use Rattle.laws.proofs.Bools.{true-within}
-use Rattle.laws.proofs.Accepted.{SampleRight, sample-right, sheet-rows}
+use Rattle.laws.proofs.Accepted.{sample-right, sheet-rows}
 use Rattle.laws.proofs.Limits.{LevelIn, LimitsIn, limits-in}
 use Rattle.laws.proofs.Told.{told, carry, streak-run}
 

@@ -6,11 +6,11 @@ use mathlib.Core.List.{List, [], _∷_, map}
 use Prim.Native.Nat.{ℕ, zero, suc, _+_, _*_, _/_, _≤_, min}
 use native.Mathlib.Nat.{zero-add, suc-add, add-suc, mul-div-cancel, div-mul-le-self}
 use native.Mathlib.Omega.{arith}
-use lib.ListN.{length, replicate, length-replicate}
+use lib.ListN.{replicate, length-replicate}
 use borrow.Author.Tests.{lt-leb}
 use Rattle.rules.specs.Tests.{any}
 use Rattle.rules.specs.Settings.{settingsAccepted, limitAt}
-use Rattle.rules.specs.Samples.{Slice, Equipment}
+use Rattle.rules.specs.Samples.{Equipment}
 use Rattle.rules.specs.Counters.{Kind, kinds, limitRules}
 use Rattle.rules.specs.Regions.{regionOf, isContinuous}
 use Rattle.rules.specs.Service.{shareOf}

@@ -8,15 +8,14 @@ use native.Mathlib.Nat.{min-zero}
 use native.Mathlib.Omega.{arith}
 use lib.Dec.{eqb}
 use lib.IntN.{ℤ}
-use lib.ListN.{getD}
-use Rattle.rules.specs.Tests.{any, within}
-use Rattle.rules.specs.Samples.{Slice, Equipment, permitted}
-use Rattle.rules.specs.Counters.{Rule, counted, full, tripRules, readyRule, rules}
+use Rattle.rules.specs.Tests.{within}
+use Rattle.rules.specs.Samples.{Slice, Equipment}
+use Rattle.rules.specs.Counters.{counted, full, tripRules, readyRule, rules}
 use Rattle.rules.specs.Regions.{regionOf, isContinuous}
 use Rattle.rules.specs.Service.{ramped, statusOf, inService, shareOf}
 use Rattle.rules.specs.Reports.{Items}
 use Rattle.rules.specs.Records.{fresh, each, capped, readAs, settled, ruled, next, shown}
-use Rattle.rules.specs.History.{History, followedBy, streak, complete, serving, climbedMore, climbed, historyStatus, historyShare, historyWatts, historyVars, historyReport}
+use Rattle.rules.specs.History.{History, streak, complete, serving, climbedMore, climbed, historyStatus, historyShare, historyWatts, historyVars, historyReport}
 use Rattle.rules.specs.declared.Settings.{Settings}
 use Rattle.rules.specs.declared.Board.{Board}
 use Rattle.rules.specs.declared.Region.{Region}

@@ -4,22 +4,20 @@ use mathlib.Core.Path.{_≡_, refl, sym, _∙_}
 use mathlib.Core.Bool.{Bool, true, false, cond, not, _&&_, _||_, false≢true, true≢false}
 use mathlib.Core.Logic.{_⊎_, inl, inr, ⊎-elim, _↔_}
 use mathlib.Core.List.{List, [], _∷_, map}
-use Prim.Native.Nat.{ℕ, zero, suc, _+_, _≤_, _<_, max, zero-le, suc-le-suc}
+use Prim.Native.Nat.{ℕ, zero, suc, _+_, _≤_, _<_, zero-le, suc-le-suc}
 use native.Mathlib.Nat.{le-of-suc-le-suc, not-suc-le-zero, le-trans, lt-of-lt-of-le, add-zero, add-suc, suc-add, zero-add}
 use native.Mathlib.Omega.{arith}
-use lib.Dec.{leb}
 use lib.ListN.{length, getD}
 use borrow.Author.Tests.{leb-true, le-leb}
-use Rattle.rules.specs.Tests.{any, all, within}
-use Rattle.rules.specs.Settings.{settingsAccepted, limitAt}
+use Rattle.rules.specs.Tests.{any}
+use Rattle.rules.specs.Settings.{settingsAccepted}
 use Rattle.rules.specs.Samples.{Slice, Equipment, permitted, frequency, lowest, highest}
-use Rattle.rules.specs.Counters.{Rule, Kind, kinds, undervoltage, broken, inRange, limitRule, limitRules, tripRules, readyRule}
-use Rattle.rules.specs.Regions.{regionOf, frequencyRegion, worse}
+use Rattle.rules.specs.Counters.{Rule, Kind, kinds, undervoltage, inRange, limitRule, limitRules, tripRules, readyRule}
+use Rattle.rules.specs.Regions.{regionOf, frequencyRegion}
 use Rattle.rules.specs.History.{History, streak, complete, serving}
 use Rattle.rules.specs.declared.Settings.{Settings}
-use Rattle.rules.specs.declared.Region.{Region}
 use Rattle.rules.specs.declared.Region.the-variants.{Continuous}
-use Rattle.claims.specs.Held.{Held, RanOut, WaitFull, brokenAt}
+use Rattle.claims.specs.Held.{Held, RanOut, WaitFull}
 use Rattle.claims.specs.Sound.{Sound}
 use Rattle.laws.proofs.Bools.{at-all, within-true, true-within}
 use Rattle.laws.proofs.Accepted.{sheet-rows}

@@ -1,13 +1,13 @@
 -- Sensible states: lines and bytes are counted within the input's 10^12 bytes.
 -- Assumes nothing.
-use mathlib.Core.Path.{_≡_, refl, sym, ap, _∙_}
+use mathlib.Core.Path.{_≡_, refl}
 use mathlib.Core.Bool.{Bool, true, false, cond, not, _&&_, _||_, false≢true}
 use mathlib.Core.List.{List}
 use Prim.Native.Nat.{ℕ, _+_, _-_, _≤_}
 use native.Mathlib.Omega.{arith}
 use lib.Dec.{leb, eqb}
 use lib.ListN.{length}
-use borrow.Author.Tests.{le-leb, leb-true, eq-eqb, ne-eqb, eqb-false}
+use borrow.Author.Tests.{le-leb, leb-true, eqb-false}
 use Rattle.rules.specs.Samples.{Equipment}
 use Rattle.rules.specs.Transcripts.{inputEnd}
 use Rattle.rules.specs.declared.Settings.{Settings}
@@ -15,7 +15,7 @@ use Rattle.rules.specs.declared.SettingsCheck.{SettingsCheck}
 use Rattle.text.specs.Forms.{formAt}
 use Rattle.sheet.specs.Storing.{onLine}
 use Rattle.program.specs.States.{isDone, readsSheet, stopped, sensible, readState, Fit}
-use Rattle.program.specs.Saying.{Said, numbersIn, phaseAfter, onCheck, sheetLine, sampleLine, said}
+use Rattle.program.specs.Saying.{numbersIn, onCheck, sheetLine, sampleLine, said}
 use Rattle.program.specs.declared.State.{State}
 
 pub fit-less : {q : State} {n : ℕ} (m : ℕ) → Fit q n → m ≤ n → Fit q m

@@ -1,8 +1,8 @@
 -- The lines of a text, one by one, and of two texts put together.
 -- Assumes nothing.
-use mathlib.Core.Path.{_≡_, refl, sym, ap, ap₂, _∙_}
+use mathlib.Core.Path.{_≡_, refl, sym, ap, _∙_}
 use mathlib.Core.Bool.{Bool, true, false, cond, _||_, false≢true}
-use mathlib.Core.List.{List, [], _∷_, _++_, append-assoc, append-nil}
+use mathlib.Core.List.{List, [], _∷_, _++_, append-nil}
 use Prim.Native.Nat.{ℕ, zero, suc, _+_}
 use native.Mathlib.Omega.{arith}
 use borrow.Author.Tests.{eqb-true}
@@ -10,7 +10,7 @@ use lib.Dec.{eqb}
 use lib.ListN.{length, take}
 use lib.Seq.{append-snoc, take-append-add}
 use Rattle.rules.specs.Text.{feed, firstLine, hasFeed, afterLine}
-use Rattle.rules.specs.Transcripts.{Line, ended, unended, lastLine, linesAfter, linesIn}
+use Rattle.rules.specs.Transcripts.{ended, lastLine, linesAfter, linesIn}
 
 lines-after : (before s : List ℕ)
     → linesAfter before s ≡ cond (hasFeed s) (ended (before ++ firstLine s) ∷ linesAfter [] (afterLine s)) (lastLine (before ++ s))

@@ -1,9 +1,9 @@
 -- The lines of a block: what is said for them and what is left say together what was to be said from the state before.
 -- Assumes nothing.
-use mathlib.Core.Path.{_≡_, refl, sym, ap, ap₂, _∙_, subst}
+use mathlib.Core.Path.{_≡_, refl, sym, ap, _∙_, subst}
 use mathlib.Core.Bool.{Bool, true, false, cond, _||_, false≢true}
 use mathlib.Core.List.{List, [], _∷_, _++_, append-assoc, append-nil}
-use Prim.Native.Nat.{ℕ, zero, suc, _+_, _-_, _≤_, _<_}
+use Prim.Native.Nat.{ℕ, zero, suc, _+_, _-_, _≤_}
 use native.Mathlib.Omega.{arith}
 use borrow.Author.Tests.{ltb-false}
 use lib.Dec.{ltb}
@@ -11,14 +11,13 @@ use lib.ListN.{length, take, drop, length-drop}
 use lib.Seq.{take-length, drop-length, drop-drop}
 use Rattle.rules.specs.Samples.{Equipment}
 use Rattle.rules.specs.Text.{feed, firstLine, hasFeed, afterLine}
-use Rattle.rules.specs.Transcripts.{Line, linesIn, lastLine}
+use Rattle.rules.specs.Transcripts.{Line, linesIn}
 use Rattle.text.proofs.Lines.{line-after, line-ended}
 use Rattle.program.specs.States.{Fit, isDone, readsSheet, stopped}
-use Rattle.program.specs.Saying.{Said, said, endText, resume}
+use Rattle.program.specs.Saying.{Said, said, resume}
 use Rattle.program.specs.Responses.{longest, stops, andSaid, closed, dropped, atTail, handled}
-use Rattle.program.specs.declared.State.{State}
 use Rattle.program.proofs.Framing.{lines-fed, lines-unfed, line-plain, take-line, feed-front, line-front, after-front}
-use Rattle.program.proofs.Resuming.{resume-fed, resume-unfed, resume-line, done-resume, said-taken, droppedFrom, dropped-resume}
+use Rattle.program.proofs.Resuming.{resume-fed, resume-unfed, resume-line, done-resume, said-taken, dropped-resume}
 use Rattle.program.proofs.Ending.{doneAfter, done-fed, done-done, done-dropped}
 use Rattle.program.proofs.Fitting.{fit-less, fit-stopped, fit-said}
 

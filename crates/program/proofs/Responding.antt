@@ -3,7 +3,7 @@
 -- Assumes nothing.
 use mathlib.Core.Path.{_≡_, refl, sym, ap, ap₂, _∙_, subst}
 use mathlib.Core.Bool.{Bool, true, false, cond, _||_, false≢true}
-use mathlib.Core.List.{List, [], _∷_, _++_, append-nil}
+use mathlib.Core.List.{List, [], _++_, append-nil}
 use Prim.Native.Nat.{ℕ, _+_, _-_, _≤_, _<_, min}
 use native.Mathlib.Omega.{arith}
 use borrow.Author.Tests.{leb-true, leb-false, lt-ltb, le-ltb}
@@ -13,12 +13,12 @@ use lib.Seq.{take-nil, take-all, take-take}
 use Rattle.rules.specs.Samples.{Equipment}
 use Rattle.rules.specs.Text.{firstLine, hasFeed, afterLine}
 use Rattle.rules.specs.Transcripts.{linesIn, answersFrom, inputEnd}
-use Rattle.program.specs.States.{Fit, isDone, readsSheet, stopped, readState}
+use Rattle.program.specs.States.{Fit, isDone, readsSheet}
 use Rattle.program.specs.Saying.{Said, said, resume}
-use Rattle.program.specs.Responses.{lineRoom, longest, stops, andSaid, closed, dropped, handled, budget, respondOf}
+use Rattle.program.specs.Responses.{lineRoom, longest, stops, andSaid, dropped, handled, budget, respondOf}
 use Rattle.program.specs.declared.State.{State}
 use Rattle.program.proofs.Cuts.{take-both, rest-cut}
-use Rattle.program.proofs.Fitting.{fit-less, fit-read}
+use Rattle.program.proofs.Fitting.{fit-read}
 use Rattle.program.proofs.Resuming.{said-taken, resume-none}
 use Rattle.program.proofs.Transcripts.{sampling, resume-samples}
 use Rattle.program.proofs.Ending.{doneAfter}

@@ -1,29 +1,26 @@
 -- What is written from a state on, line by line; all done, nothing is; and dropping the beginning of a line longer than any form
 -- changes nothing of it.
 -- Assumes nothing.
-use mathlib.Core.Path.{_≡_, refl, sym, ap, ap₂, _∙_}
+use mathlib.Core.Path.{_≡_, refl, sym, ap, _∙_}
 use mathlib.Core.Bool.{Bool, true, false, cond, _||_, false≢true}
 use mathlib.Core.List.{List, [], _∷_, _++_}
-use mathlib.Core.Option.{Option, none, some}
-use Prim.Native.Nat.{ℕ, suc, _+_, _-_, _<_}
+use mathlib.Core.Option.{none}
+use Prim.Native.Nat.{ℕ, _+_, _-_}
 use native.Mathlib.Omega.{arith}
-use lib.Dec.{ltb, eqb}
-use lib.IntN.{ℤ}
+use lib.Dec.{ltb}
 use lib.ListN.{length, length-append}
 use Rattle.rules.specs.Samples.{Equipment}
-use Rattle.rules.specs.Forms.{sheetForms, sampleForm, numbersOf}
+use Rattle.rules.specs.Forms.{sheetForms, sampleForm}
 use Rattle.rules.specs.Text.{feed, firstLine, hasFeed, afterLine}
-use Rattle.rules.specs.Transcripts.{Line, ended, unended, lastLine, linesIn, refusedLine, onSampleNumbers}
+use Rattle.rules.specs.Transcripts.{Line, ended, unended, linesIn}
 use Rattle.rules.specs.declared.Settings.{Settings}
-use Rattle.rules.specs.declared.Refusal.the-variants.{Form, Sample}
 use Rattle.rules.specs.declared.SettingsCheck.{SettingsCheck}
 use Rattle.text.specs.Forms.{forms, formAt}
 use Rattle.text.proofs.Made.{too-long}
 use Rattle.sheet.specs.Storing.{onLine}
-use Rattle.sheet.specs.declared.LineRead.{LineRead}
 use borrow.Author.Tests.{ltb-true}
-use Rattle.program.specs.States.{isDone, readsSheet, stopped}
-use Rattle.program.specs.Saying.{Said, numbersIn, onCheck, onRead, sheetLine, onStepped, sampleLine, said, isSome, endText, following, resume}
+use Rattle.program.specs.States.{isDone, readsSheet}
+use Rattle.program.specs.Saying.{numbersIn, onCheck, sheetLine, sampleLine, said, isSome, endText, following, resume}
 use Rattle.program.specs.declared.State.{State}
 use Rattle.program.proofs.Framing.{lines-fed, lines-unfed, lines-line, feed-past-plain, line-past-plain, after-past-plain}
 

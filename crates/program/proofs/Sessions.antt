@@ -1,15 +1,15 @@
 -- The transcript law, for any equipment.
 -- Assumes nothing.
-use mathlib.Core.Path.{_≡_, refl, sym, ap, ap₂, _∙_, subst}
-use mathlib.Core.Bool.{Bool, true, false, cond, _||_, false≢true}
+use mathlib.Core.Path.{_≡_, refl, sym, ap, _∙_, subst}
+use mathlib.Core.Bool.{Bool, true, false, false≢true}
 use mathlib.Core.List.{List, [], _∷_, _++_, append-assoc, append-nil}
-use Prim.Native.Nat.{ℕ, zero, suc, _+_, _-_, _≤_, _<_}
+use Prim.Native.Nat.{ℕ, _+_, _-_, _≤_, _<_}
 use native.Mathlib.Omega.{arith}
 use borrow.Author.Tests.{ne-eqb}
 use lib.ListN.{length, take, drop, length-append, length-take, length-drop, take-append-drop}
 use lib.Seq.{take-all, take-at, drop-append-seam}
 use Rattle.rules.specs.Samples.{Equipment}
-use Rattle.rules.specs.Text.{hasFeed, firstLine}
+use Rattle.rules.specs.Text.{hasFeed}
 use Rattle.rules.specs.Sheets.{readSheet}
 use Rattle.rules.specs.Transcripts.{linesIn, inputEnd, transcriptOf, transcript}
 use Rattle.rules.specs.declared.Refusal.{Refusal}

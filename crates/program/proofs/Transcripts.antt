@@ -1,15 +1,12 @@
 -- From the start, what is written for the lines of an input is the input's transcript.
 -- Assumes nothing.
-use mathlib.Core.Path.{_≡_, refl, sym, ap, ap₂, _∙_, subst}
-use mathlib.Core.Bool.{Bool, true, false, cond, false≢true}
+use mathlib.Core.Path.{_≡_, refl, sym, ap, _∙_, subst}
+use mathlib.Core.Bool.{Bool, true, false, false≢true}
 use mathlib.Core.List.{List, [], _∷_, _++_, append-nil}
-use mathlib.Core.Option.{Option, none, some}
 use Prim.Native.Nat.{ℕ, zero, suc, _+_, _-_, _≤_, _<_}
-use native.Mathlib.Decide.{decLt}
 use native.Mathlib.Numerals.{add-one}
 use native.Mathlib.Omega.{arith}
 use borrow.Author.Tests.{eq-eqb, ne-eqb}
-use lib.Dec.{eqb}
 use lib.ListN.{length, length-append, drop}
 use lib.Seq.{drop-drop}
 use Rattle.rules.specs.Settings.{Pair}
@@ -17,21 +14,20 @@ use Rattle.rules.specs.Samples.{Equipment}
 use Rattle.rules.specs.Text.{firstLine, hasFeed, afterLine}
 use Rattle.rules.specs.Forms.{numbersOf, sampleForm}
 use Rattle.rules.specs.Records.{fresh}
-use Rattle.rules.specs.Sheets.{SheetReading, settingsOf, refusedAt, readSheet}
-use Rattle.rules.specs.Transcripts.{Line, ended, unended, linesIn, lastLine, lineStep, onSampleNumbers, answerLine, answersFrom, refusedLine, onSheet, transcriptOf}
+use Rattle.rules.specs.Sheets.{SheetReading, settingsOf, readSheet}
+use Rattle.rules.specs.Transcripts.{linesIn, lastLine, lineStep, onSampleNumbers, answerLine, answersFrom, refusedLine, onSheet, transcriptOf}
 use Rattle.rules.specs.declared.Settings.{Settings}
 use Rattle.rules.specs.declared.Board.{Board}
 use Rattle.rules.specs.declared.Refusal.{Refusal}
-use Rattle.rules.specs.declared.Refusal.the-variants.{Form, Sample}
+use Rattle.rules.specs.declared.Refusal.the-variants.{Form}
 use Rattle.rules.specs.declared.SettingsCheck.{SettingsCheck}
 use Rattle.rules.specs.declared.Stepped.{Stepped}
-use Rattle.text.specs.Forms.{formAt}
-use Rattle.text.proofs.Lines.{line-after, line-ended}
-use Rattle.sheet.specs.Storing.{onLine, lineRead}
+use Rattle.text.proofs.Lines.{line-after}
+use Rattle.sheet.specs.Storing.{lineRead}
 use Rattle.sheet.specs.declared.LineRead.{LineRead}
-use Rattle.sheet.proofs.Reading.{from, from-unended, from-end, Gone, on-accepted, on-refused}
-use Rattle.program.specs.States.{start, isDone, stopped}
-use Rattle.program.specs.Saying.{Said, onRead, onCheck, phaseAfter, said, sheetLine, sampleLine, endText, resume}
+use Rattle.sheet.proofs.Reading.{from, from-unended, from-end, on-accepted, on-refused}
+use Rattle.program.specs.States.{start, stopped}
+use Rattle.program.specs.Saying.{Said, onRead, onCheck, phaseAfter, said, endText, resume}
 use Rattle.program.specs.declared.State.{State}
 use Rattle.program.proofs.Framing.{lines-fed, lines-unfed}
 use Rattle.program.proofs.Ending.{doneAfter, done-fed, done-done}

@@ -1,27 +1,26 @@
 -- The sample lines of a block: what one reads as, and one line more.
 -- Assumes nothing.
 use mathlib.Core.Path.{_≡_, refl, sym, ap, ap₂, _∙_, subst}
-use mathlib.Core.Bool.{Bool, true, false, cond, _&&_, _||_, false≢true}
-use mathlib.Core.List.{List, [], _∷_, _++_, append-assoc, append-nil}
+use mathlib.Core.Bool.{Bool, true, false, cond, _&&_, false≢true}
+use mathlib.Core.List.{List, [], _++_, append-assoc, append-nil}
 use mathlib.Core.Option.{Option, none, some}
 use Prim.Native.Nat.{ℕ, _+_, _-_, _≤_, _<_}
 use native.Mathlib.Omega.{arith}
-use borrow.Author.Tests.{lt-ltb, le-ltb, le-leb, lt-leb, leb-true}
+use borrow.Author.Tests.{lt-ltb, le-ltb, le-leb, leb-true}
 use lib.Dec.{ltb, leb}
 use lib.IntN.{ℤ}
 use lib.ListN.{length, length-append, drop}
 use Rattle.rules.specs.Regions.{ourEquipment}
-use Rattle.rules.specs.Text.{firstLine, hasFeed, afterLine}
+use Rattle.rules.specs.Text.{firstLine, hasFeed}
 use Rattle.rules.specs.Forms.{sampleForm, numbersOf}
 use Rattle.rules.specs.Transcripts.{linesIn, answerLine, onSampleNumbers}
-use Rattle.rules.specs.declared.Settings.{Settings}
 use Rattle.rules.specs.declared.Board.{Board}
 use Rattle.rules.specs.declared.Stepped.{Stepped}
 use Rattle.buffers.specs.Written.{Wrote}
 use Rattle.buffers.proofs.Writing.{and-then}
-use Rattle.text.specs.Lines.{readThen, endedSample, sampleAt}
+use Rattle.text.specs.Lines.{readThen, sampleAt}
 use Rattle.text.specs.declared.SampleAt.{SampleAt}
-use Rattle.program.specs.States.{isDone, Fit}
+use Rattle.program.specs.States.{Fit}
 use Rattle.program.specs.Saying.{Said, numbersIn, said}
 use Rattle.program.specs.Responses.{lineRoom, handled}
 use Rattle.program.specs.declared.State.{State}

@@ -1,7 +1,7 @@
 -- The sheet's lines of a block: one line more.
 -- Assumes nothing.
-use mathlib.Core.Path.{_≡_, refl, sym, ap, ap₂, _∙_, subst}
-use mathlib.Core.Bool.{Bool, true, false, cond, false≢true}
+use mathlib.Core.Path.{_≡_, refl, sym, ap, _∙_, subst}
+use mathlib.Core.Bool.{Bool, true, false}
 use mathlib.Core.List.{List, []}
 use Prim.Native.Nat.{ℕ, _+_, _-_, _≤_, _<_}
 use native.Mathlib.Omega.{arith}
@@ -15,15 +15,14 @@ use Rattle.rules.specs.Transcripts.{linesIn}
 use Rattle.rules.specs.declared.Refusal.{Refusal}
 use Rattle.rules.specs.declared.SettingsCheck.{SettingsCheck}
 use Rattle.text.proofs.Lines.{line-take, line-after, line-ended}
-use Rattle.program.specs.States.{isDone, readsSheet, Fit}
+use Rattle.program.specs.States.{isDone, Fit}
 use Rattle.program.specs.Saying.{Said, sheetLine, said}
-use Rattle.program.specs.Responses.{lineRoom, stops, andSaid, handled}
+use Rattle.program.specs.Responses.{lineRoom, handled}
 use Rattle.program.specs.declared.State.{State}
 use Rattle.program.proofs.Fitting.{fit-said}
 use Rattle.program.proofs.Resuming.{said-taken}
 use Rattle.program.proofs.Handling.{handled-fed}
 use Rattle.respond.specs.Carrying.{checkText, Stands, SheetSaid}
-use Rattle.respond.specs.declared.sheet_lines.SheetLines.{SheetLines}
 
 -- ---- a place in a block
 

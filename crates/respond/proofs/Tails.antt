@@ -1,21 +1,20 @@
 -- What stands after the last line feed of a block.
 -- Assumes nothing.
-use mathlib.Core.Path.{_≡_, refl, sym, ap, ap₂, _∙_, subst}
-use mathlib.Core.Bool.{Bool, true, false, cond, _||_, false≢true}
-use mathlib.Core.List.{List, [], _∷_, _++_, append-nil}
+use mathlib.Core.Path.{_≡_, refl, sym, ap, _∙_}
+use mathlib.Core.Bool.{Bool, true, false, cond, _||_}
+use mathlib.Core.List.{List, [], _∷_, append-nil}
 use Prim.Native.Nat.{ℕ, _+_, _-_, _≤_, _<_}
 use native.Mathlib.Omega.{arith}
 use borrow.Author.Tests.{lt-ltb, le-ltb, le-leb, lt-leb, ne-eqb}
-use lib.Dec.{ltb, leb, eqb}
+use lib.Dec.{ltb}
 use lib.ListN.{length, drop, length-drop}
 use Rattle.rules.specs.Regions.{ourEquipment}
-use Rattle.rules.specs.Text.{hasFeed}
 use Rattle.rules.specs.Transcripts.{linesIn, refusedLine}
 use Rattle.rules.specs.declared.Refusal.the-variants.{Form, Sample}
 use Rattle.buffers.specs.Written.{Wrote}
 use Rattle.program.specs.States.{isDone, stopped}
-use Rattle.program.specs.Saying.{Said, isSome, endText}
-use Rattle.program.specs.Responses.{longest, lineRoom, stops, atTail, handled}
+use Rattle.program.specs.Saying.{isSome, endText}
+use Rattle.program.specs.Responses.{longest, lineRoom, atTail, handled}
 use Rattle.program.specs.declared.State.{State}
 use Rattle.program.proofs.Handling.{handled-unfed, handled-stops}
 use Rattle.respond.specs.Carrying.{droppedState, Stuck, Closed}

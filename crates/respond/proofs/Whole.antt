@@ -1,13 +1,13 @@
 -- The parts of `respond` put together.
 -- Assumes nothing.
-use mathlib.Core.Path.{_≡_, refl, sym, ap, ap₂, _∙_, subst}
-use mathlib.Core.Bool.{Bool, true, false, cond, _||_, false≢true}
+use mathlib.Core.Path.{_≡_, refl, sym, ap, _∙_, subst}
+use mathlib.Core.Bool.{Bool, true, false, _||_}
 use mathlib.Core.List.{List, [], _∷_, _++_, append-assoc, append-nil}
-use Prim.Native.Nat.{ℕ, _+_, _-_, _≤_, _<_, min}
+use Prim.Native.Nat.{ℕ, _-_, _≤_, _<_, min}
 use native.Mathlib.Decide.{decLe}
 use native.Mathlib.Omega.{arith}
 use borrow.Author.Tests.{leb-false, eq-eqb}
-use lib.Dec.{leb, eqb}
+use lib.Dec.{leb}
 use lib.ListN.{length, take, drop, length-append, length-take}
 use lib.Seq.{take-all}
 use Rattle.rules.specs.Regions.{ourEquipment}
@@ -22,7 +22,7 @@ use Rattle.program.specs.declared.State.{State}
 use Rattle.program.proofs.Fitting.{sensible-fit, fit-read}
 use Rattle.program.proofs.Handling.{handled-stops}
 use Rattle.program.proofs.Responding.{nothing-taken}
-use Rattle.respond.specs.Carrying.{checkText, Stands, SheetSaid, begun, Carried, Stuck, Closed, Responds}
+use Rattle.respond.specs.Carrying.{checkText, SheetSaid, begun, Carried, Stuck, Closed, Responds}
 use Rattle.respond.specs.declared.state.Handled.{Handled}
 use Rattle.respond.specs.declared.sheet_lines.SheetLines.{SheetLines}
 use Rattle.respond.specs.declared.Responded.{Responded}
@@ -141,7 +141,7 @@ module _ (q : State) (block : List ℕ) (last : Bool) (e : sensible q ≡ true) 
       let n = ap length (part-is end p) ∙ length-take (budget q) block in
       record { from-one = fit .from-one; low = fit .low; high = omega (arith, fit .high, n); sheet = fit .sheet }
 
-  -- a call that takes nothing leaves no more bytes than the longest form has
+  -- a call that takes nothing leaves no more than 128 bytes
   pub short-left : (d d′ : List ℕ) (r : Responded) → Responds q block last d d′ r → lineRoom ≤ length d → r .done ≡ false → r .taken ≡ 0 → length block ≤ longest
   short-left d d′ r c room going none =
       nothing-taken ourEquipment q block last (length d) fit room (sym (ap isDone (c .state)) ∙ sym (c .done) ∙ going) (sym (c .taken) ∙ none)

@@ -11,7 +11,6 @@ use Rattle.rules.specs.Transcripts.{linesIn, refusedLine}
 use Rattle.rules.specs.declared.SettingsCheck.{SettingsCheck}
 use Rattle.buffers.specs.Written.{Wrote}
 use Rattle.program.specs.States.{isDone, readsSheet, Fit}
-use Rattle.program.specs.Saying.{Said}
 use Rattle.program.specs.Responses.{lineRoom, handled, respondOf}
 use Rattle.program.specs.declared.State.{State}
 use Rattle.respond.specs.declared.state.Handled.{Handled}

@@ -34,7 +34,7 @@ pub fn start() -> State
     }
 }
 
-// Its counts are not out of reach of every input.
+// Its counts pass a test that those of every state that some input leads to pass.
 pub fn sensible(q: State) -> bool
     ensures { λ r. ⌜ r ≡ sensible q ⌝ }
 {

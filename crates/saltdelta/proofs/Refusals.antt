@@ -1,7 +1,7 @@
 -- Demand 1 for the exported functions: they refuse with the first cause in document 01's order, and leave what was lent to them as it was.
 -- Of `saltdelta_save`, whose contract has `saveCheck` and `savedInto` themselves, `save` and `save-keeps` of `RefusesRightly` say so.
 -- Assumes nothing.
-use mathlib.Core.Path.{_≡_, refl, sym, _∙_}
+use mathlib.Core.Path.{_≡_, refl}
 use mathlib.Core.List.{List, _++_}
 use mathlib.Core.Logic.{_↔_}
 use Prim.Native.Nat.{ℕ, _+_, _<_}

@@ -12,7 +12,7 @@ use lib.ListN.{length, getD}
 use mir.Syntax.{w16, w32}
 use mir.Val.{SFits, toZ, ofZ}
 use mir.Facts.{toZ-ofZ}
-use Rattle.rules.specs.Tests.{any, all, within}
+use Rattle.rules.specs.Tests.{any, within}
 use Rattle.rules.specs.Settings.{settingsCheck, isAccepted, settingsAccepted}
 use Rattle.rules.specs.Samples.{Slice, permitted, available, operatorLimit, mean, sampleCheck}
 use Rattle.rules.specs.Counters.{Rule, counted, full, broken, inRange, tripRules, readyRule, rules}

@@ -1,7 +1,7 @@
 -- One line more of a sheet: what reading it says of the rest.
 -- Assumes nothing.
 use mathlib.Core.Path.{_≡_, refl, sym, ap, ap₂, _∙_, subst, fun-ext}
-use mathlib.Core.Bool.{Bool, true, false}
+use mathlib.Core.Bool.{true, false}
 use mathlib.Core.List.{List, [], _∷_, _++_}
 use mathlib.Core.Option.{Option, none, some}
 use Prim.Native.Nat.{ℕ, suc, _+_, _-_, _<_, _≤_}
@@ -11,7 +11,7 @@ use lib.IntN.{ℤ}
 use lib.Dec.{ltb}
 use lib.ListN.{length, length-append, getD, take, drop, drop-of-length-le, List·getD-append}
 use lib.Seq.{drop-cons, drop-drop}
-use Rattle.rules.specs.Settings.{Pair, Row, row, rows, lineCheck}
+use Rattle.rules.specs.Settings.{Pair, row, rows}
 use Rattle.rules.specs.Text.{firstLine, hasFeed, afterLine}
 use Rattle.rules.specs.Forms.{sheetForms, sampleForm, numbersOf}
 use Rattle.rules.specs.Sheets.{pairs, settingsOf, SheetReading, refusedAt, onNumbers, readFrom, readSheet}

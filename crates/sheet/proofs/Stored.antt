@@ -3,11 +3,9 @@
 use mathlib.Core.Path.{_≡_, refl, sym, ap, _∙_, subst}
 use mathlib.Core.Bool.{Bool, true, cond}
 use mathlib.Core.List.{List, [], _∷_, _++_}
-use mathlib.Core.Logic.{⊎-elim}
-use Prim.Native.Nat.{ℕ, suc, _≤_, _<_}
+use Prim.Native.Nat.{ℕ, _<_}
 use native.Mathlib.Decide.{decLt}
 use native.Mathlib.Omega.{arith}
-use lib.Dec.{ltb, eqb}
 use lib.IntN.{ℤ, pos}
 use lib.ListN.{length, getD, set}
 use lib.Seq.{getD-set-same}
@@ -22,7 +20,7 @@ use Rattle.settings.proofs.Sheet.{trip-at}
 use Rattle.text.specs.Forms.{formAt}
 use Rattle.text.specs.Places.{padded}
 use Rattle.sheet.specs.Storing.{limitIn, withNumbers}
-use Rattle.sheet.proofs.Shapes.{Two, two-numbers, Four, watt-numbers, Eight, var-numbers}
+use Rattle.sheet.proofs.Shapes.{two-numbers, watt-numbers, var-numbers}
 
 -- ---- in its line
 

@@ -12,7 +12,7 @@ use lib.Dec.{leb}
 use lib.IntN.{ℤ}
 use lib.ListN.{length, getD}
 use Rattle.rules.specs.Tests.{all, within}
-use Rattle.rules.specs.Text.{feed, hasFeed}
+use Rattle.rules.specs.Text.{hasFeed}
 use Rattle.rules.specs.Forms.{sheetForms, sampleForm, numbersOf}
 use Rattle.formats.specs.Marks.{marks}
 use Rattle.formats.proofs.Digits.{both}

@@ -13,7 +13,6 @@ use lib.Seq.{drop-cons}
 use Rattle.rules.specs.Text.{isDigit, leadingDigits, afterDigits, valueAfter}
 use Rattle.formats.proofs.Digits.{IsDigit, is-digit, leading-more, leading-none, after-more, after-none, tens, tens-mono}
 use Rattle.text.specs.Places.{DigitsAt}
-use Rattle.text.specs.declared.number.Digits.{Digits}
 
 -- the digits from `at` on are those up to i, with the value v, and those from i on
 pub record Run (s : List ℕ) (at v i : ℕ) : Type 0 where

@@ -18,7 +18,7 @@ use Rattle.rules.specs.Text.{minus, isDigit, leadingDigits, afterDigits, valueA
 use Rattle.rules.specs.Forms.{numberMark}
 use Rattle.rules.specs.Tests.{within}
 use Rattle.formats.specs.Marks.{takeMarked}
-use Rattle.formats.proofs.Digits.{WellFormed, well-formed, formed-well, leading-digits, value-below, tens, tens-mono}
+use Rattle.formats.proofs.Digits.{WellFormed, well-formed, formed-well, leading-digits, value-below, tens-mono}
 use Rattle.formats.proofs.Numbers.{number-written, signed-other}
 use Rattle.text.specs.Places.{DigitsAt, NumberAt, noNumber}
 use Rattle.text.specs.declared.number.Digits.{Digits}

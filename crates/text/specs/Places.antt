@@ -4,7 +4,7 @@ use mathlib.Core.Path.{_≡_}
 use mathlib.Core.Bool.{true, false, cond}
 use mathlib.Core.List.{List, _++_}
 use mathlib.Core.Option.{Option, none, some}
-use Prim.Native.Nat.{ℕ, _+_, _-_, _≤_, min}
+use Prim.Native.Nat.{ℕ, _-_, _≤_, min}
 use lib.IntN.{ℤ, pos, natAbs}
 use lib.ListN.{length, drop, replicate}
 use Rattle.rules.specs.Text.{Taken, leadingDigits, afterDigits, valueAfter}

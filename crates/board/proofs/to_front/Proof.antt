@@ -1,9 +1,9 @@
 -- `board::to_front` meets its contract.
 -- Assumes nothing.
-use mathlib.Core.Path.{_≡_, refl, ap, _∙_}
-use Prim.Native.Nat.{_+_, _-_, _≤_}
+use mathlib.Core.Path.{_≡_, refl, _∙_}
+use Prim.Native.Nat.{_-_, _≤_}
 use native.Mathlib.Omega.{arith}
-use lib.ListN.{length, length-set, take}
+use lib.ListN.{length, length-set}
 use denote.Ref.{now}
 use Rattle.board.proofs.Moving.{moved, one-more, moved-front}
 use borrow.Author.Needs.{needs}

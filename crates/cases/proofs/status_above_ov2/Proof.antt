@@ -1,7 +1,6 @@
 -- `cases::status_above_ov2` is safe and ends. The measure is the steps left.
 -- Assumes nothing.
 use Prim.Native.Nat.{_≤_, _-_}
-use lib.ListN.{length}
 use borrow.Author.Needs.{needs}
 use Rattle.cases.proofs.status_above_ov2.Statement.{statement}
 use Rattle.cases.proofs.status_above_ov2.Tie as tie

@@ -1,6 +1,5 @@
 -- `lines::is_steady` meets its contract.
 -- Assumes nothing.
-use mathlib.Core.Path.{refl}
 use borrow.Author.Tests.{eq-eqb, ne-eqb}
 use Rattle.lines.proofs.is_steady.Statement.{statement}
 use Rattle.lines.proofs.is_steady.Tie as tie

@@ -1,7 +1,7 @@
 -- `saltdelta::saltdelta_read_sheet` meets its contract: a walk of its MIR, by hand. The settings' borrow is opened, they are copied out
 -- whole and passed by value, and those that come back are stored whole.
 -- Assumes nothing.
-use Rattle.walk.proofs.Walking.{_≡_, refl, ap, ℕ, [], _∷_, List, URA, named, Val, vptr, SProp, ent, emp, via, fst∗, id⊢, GName, Lft, Share, Fml, ftrue, flft, fobs, fbor, Memory, Routine, Heap, Calls, Loops, WpFn, Tables, Atoms, Fun, givenOf, tables, Given, Item, ‵, raw, _⊛_, ⋆, _$_, _∵_, !, qed, by, move, drop, use1, use2, split, join, fsplit, fsplit3, fjoin, fjoin3, feqI, suffices, frame, done, look, look-raw, init, store-raw, stop, hop, fld, from, load, of-opd, and-then, no-more, land, assigns, returns, enter, alloc1, alloc0, params1, pass1, pass0, free0, whole, sub, look-in, Body, FmC, fmOf, WpFn-mono, owns, Is, mem, u8, RefT, MutRef, ptr-vals, mut-tells, slice-vals, ShrSlice, shr-slice-tells, shr-slice-lawful, shr-slice-copy, plain, nothing, Contract, Triple, onEntry, Meets, tripleOf, entered, cited, says, Stays, stay-ref, stay-none-slice, walkOf, goes-ref, goes-none-slice, ends-at, walked, walk-meets, lasts, yes}
+use Rattle.walk.proofs.Walking.{_≡_, refl, ℕ, [], _∷_, List, URA, named, Val, vptr, SProp, ent, emp, via, fst∗, id⊢, GName, Lft, Share, Fml, ftrue, flft, fobs, fbor, Memory, Routine, Heap, Calls, Loops, WpFn, Tables, Atoms, Fun, givenOf, tables, Given, Item, ‵, raw, _⊛_, ⋆, _$_, _∵_, !, qed, by, move, drop, use1, use2, split, join, fsplit, fsplit3, fjoin, fjoin3, feqI, suffices, frame, done, look, look-raw, init, store-raw, stop, hop, fld, from, load, of-opd, and-then, no-more, land, assigns, returns, enter, alloc1, alloc0, params1, pass1, pass0, free0, whole, sub, look-in, Body, FmC, fmOf, WpFn-mono, owns, Is, mem, u8, RefT, MutRef, ptr-vals, mut-tells, slice-vals, ShrSlice, shr-slice-tells, shr-slice-lawful, shr-slice-copy, plain, nothing, Contract, Triple, onEntry, Meets, tripleOf, entered, cited, says, Stays, stay-ref, stay-none-slice, walkOf, goes-ref, goes-none-slice, ends-at, walked, walk-meets, lasts, yes}
 use contract.Running.{tablesOf}
 use Rattle.walk.proofs.Whole.{Known, have, opens-whole, closes-whole, calls-whole, gone}
 use Rattle.saltdelta.proofs.Data.{settings, answer, sheet-call, settings-of, answer-of}

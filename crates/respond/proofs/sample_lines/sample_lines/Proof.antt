@@ -1,7 +1,7 @@
 -- `respond::sample_lines::sample_lines` meets its contract. The loop's invariant: what is said from here on is what was to be said from h on
 -- (`SampleLines.antt`).
 -- Assumes nothing.
-use mathlib.Core.Path.{_≡_, sym, _∙_, subst}
+use mathlib.Core.Path.{sym, _∙_, subst}
 use mathlib.Core.Bool.{cond}
 use native.Mathlib.Omega.{arith}
 use denote.Ref.{now}

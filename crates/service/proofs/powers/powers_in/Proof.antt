@@ -7,7 +7,6 @@ use mir.Val.{toZ, ofZ}
 use borrow.Author.Tests.{le-leb, lt-leb}
 use Rattle.rules.specs.Tests.{within}
 use Rattle.rules.specs.Service.{varsOf, wattsOf}
-use Rattle.power.specs.Points.{Rises}
 use Rattle.laws.proofs.Curves.{var-rises, watt-rises, watt-not-negatives}
 use Rattle.service.proofs.Stepping.{kept32, vars-are, watts-are}
 use borrow.Author.Needs.{needs}

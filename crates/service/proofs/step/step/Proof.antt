@@ -1,6 +1,6 @@
 -- `service::step::step` meets its contract: refused settings change nothing, and under accepted ones the sample decides.
 -- Assumes nothing.
-use mathlib.Core.Path.{_≡_, sym, ap, _∙_}
+use mathlib.Core.Path.{sym, ap, _∙_}
 use denote.Ref.{now}
 use Rattle.rules.specs.Settings.{isAccepted}
 use Rattle.service.proofs.Stepping.{settings-refused}

@@ -4,7 +4,7 @@ use mathlib.Core.Path.{sym, _∙_}
 use Prim.Native.Nat.{_-_, _≤_}
 use native.Mathlib.Omega.{arith}
 use borrow.Author.Tests.{not-true, not-false}
-use lib.ListN.{length, set}
+use lib.ListN.{length}
 use mir.Facts.{toZ-ofZ}
 use Rattle.text.proofs.Taking.{small-fits}
 use Rattle.text.proofs.Matching.{Matching, match-start, match-fails, has-room, no-number, next-number, no-byte, other-byte, next-byte, match-ends}
