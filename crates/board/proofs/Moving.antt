@@ -8,7 +8,7 @@ use native.Mathlib.Numerals.{add-one}
 use native.Mathlib.Omega.{arith}
 use borrow.Author.Tests.{ltb-true, ltb-false}
 use lib.Dec.{ltb}
-use lib.ListN.{length, getD, set, take, drop, length-drop, length-append}
+use lib.ListN.{length, getD, set, take, drop, length-drop}
 use lib.Seq.{length-take-le, drop-cons, set-at, append-snoc, take-suc, take-at, getD-append-add, getD-drop}
 
 -- the first i bytes from a place on stand at the front
@@ -18,9 +18,6 @@ moved b from i = take i (drop from b) ++ drop i b
 module _ (b : List ℕ) (from i : ℕ) where
   head-length : from + i ≤ length b → length (take i (drop from b)) ≡ i
   head-length h = length-take-le i (drop from b) (omega (arith, length-drop from b))
-
-  pub moved-length : from + i ≤ length b → length (moved b from i) ≡ length b
-  moved-length h = omega (arith, length-append (take i (drop from b)) (drop i b), head-length h, length-drop i b)
 
   pub moved-front : from + i ≤ length b → take i (moved b from i) ≡ take i (drop from b)
   moved-front h = take-at (take i (drop from b)) (drop i b) i (head-length h)

@@ -1,4 +1,4 @@
--- "For its whole time, ending there": what held at each of the last n samples.
+-- Demand 2, "for its whole time, ending there": what held at each of the last n samples.
 -- Assumes nothing.
 use mathlib.Core.Path.{_≡_}
 use mathlib.Core.Bool.{Bool, true}

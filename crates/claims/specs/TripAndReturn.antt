@@ -1,4 +1,4 @@
--- Demand 2, as a claim about any program that could be called a board.
+-- Demand 2 (document 01, "One sample"), as a claim about any program that could be called a board.
 -- Assumes nothing.
 use mathlib.Core.Path.{_≡_}
 use mathlib.Core.Bool.{true, false}

@@ -37,9 +37,6 @@ module _ (vars : ℤ) (small : natAbs vars ≤ 10000) where
       let root = largest-root 10000 (100000000 - used) (omega arith) in
       subst (λ (r : ℕ). IsRoot (100000000 - used) r) (nameplate-is (largest (λ r. leb (r * r) (100000000 - used)) 10000) root) root
 
-  pub nameplate-top : nameplate vars ≤ 10000
-  nameplate-top = root-below (nameplate vars) 10000 (100000000 - used) (nameplate-root .low) (omega arith)
-
   -- a power that fits beside vars is not above the nameplate
   pub power-fits : (p : ℕ) → p * p + used ≤ 100000000 → p ≡ min p (nameplate vars)
   power-fits p h = omega (arith, root-below p (nameplate vars) (100000000 - used) (omega arith) (nameplate-root .high))

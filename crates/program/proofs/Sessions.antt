@@ -3,7 +3,7 @@
 use mathlib.Core.Path.{_≡_, refl, sym, ap, _∙_, subst}
 use mathlib.Core.Bool.{Bool, true, false, false≢true}
 use mathlib.Core.List.{List, [], _∷_, _++_, append-assoc, append-nil}
-use Prim.Native.Nat.{ℕ, _+_, _-_, _≤_, _<_}
+use Prim.Native.Nat.{ℕ, _-_, _≤_, _<_}
 use native.Mathlib.Omega.{arith}
 use borrow.Author.Tests.{ne-eqb}
 use lib.ListN.{length, take, drop, length-append, length-take, length-drop, take-append-drop}
@@ -48,9 +48,6 @@ module _ (e : Equipment) where
   module _ (k : Session) (c : Call) (last : Bool) where
     abbrev block : List ℕ
     block = k .left ++ c .bytes
-
-    left-length : length (called e last k c .left) ≤ length (k .left) + length (c .bytes)
-    left-length = omega (arith, length-drop (called e last k c .state .taken - k .state .taken) block, length-append (k .left) (c .bytes))
 
     -- a call says what was to be said of what it took
     call-says : Fit (k .state) 0 → (more : List ℕ) → (last ≡ true → more ≡ []) → k .text ++ still k (c .bytes ++ more) ≡ called e last k c .text ++ still (called e last k c) more

@@ -1,4 +1,4 @@
--- What `respond` makes of a state, a block of input and the size of a lent buffer.
+-- Document 01, "Image and program": what `respond` makes of a state, a block of input and the size of a lent buffer.
 -- Assumes nothing.
 use mathlib.Core.Bool.{Bool, true, cond, _||_}
 use mathlib.Core.List.{List, [], _∷_, _++_}

@@ -1,4 +1,4 @@
--- What reading a sheet gives the host, against the rules' reading.
+-- Document 01, "The sheet": what reading a sheet gives the host, against the rules' reading.
 -- Assumes nothing.
 use mathlib.Core.Path.{_≡_}
 use mathlib.Core.List.{List}

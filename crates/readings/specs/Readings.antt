@@ -1,4 +1,4 @@
--- What the rules read from an accepted sample, and the nine rules on such a reading.
+-- Document 01, "One sample": what the rules read from an accepted sample, and the nine rules on such a reading.
 -- Assumes nothing.
 use mathlib.Core.Path.{_≡_}
 use mathlib.Core.Bool.{Bool, true, false, cond}
@@ -15,6 +15,7 @@ use Rattle.rules.specs.declared.Region.the-variants.{Continuous}
 use Rattle.rules.specs.declared.Settings.{Settings}
 use Rattle.readings.specs.declared.reading.Reading.{Reading}
 
+-- lowest, highest and sum of the voltages, and the other numbers of a sample
 abbrev pub readingOf : Slice → Reading
 readingOf x =
     record {
@@ -46,9 +47,11 @@ brokenAt r i level =
     cond (ltb i 2) (ltb (r .low) level)
     (cond (ltb i 4) (ltb level (r .high)) (cond (ltb i 6) (ltb (r .frequency) level) (ltb level (r .frequency))))
 
+-- whether counter i counts the reading: its limit is broken, or, for the ninth, the enter-service criteria hold
 abbrev pub hitAt : Reading → Settings → ℕ → Bool
 hitAt r s i = cond (ltb i 8) (brokenAt r i (limitAt s i .level)) (enters r s)
 
+-- the top of counter i: its clearing time, or, for the ninth, the wait, of which 0 counts as 1
 abbrev pub topAt : Settings → ℕ → ℕ
 topAt s i = cond (ltb i 8) (limitAt s i .clearing) (max 1 (s .wait))
 

@@ -1,4 +1,4 @@
--- One sample line of a block: its numbers, and what it makes of a board.
+-- Document 01, "Image and program": one sample line of a block: its numbers, and what it makes of a board.
 -- Assumes nothing.
 use mathlib.Core.Bool.{Bool, true, false, cond}
 use mathlib.Core.List.{List, map}
@@ -33,5 +33,6 @@ unfoldable pub lineAt : Bool → List ℕ → ℕ → LineAt
 lineAt long s at =
     cond (hasFeed s) (withNumbers (at + length (firstLine s) + 1) (numbersIn long sampleForm (firstLine s))) (withoutNumbers false at)
 
+-- a step where the line has the sample form, refusal 8 where it has not
 abbrev pub answerTo : Board → Settings → LineAt → Stepped
 answerTo b st x = cond (x .found) (stepOf ourEquipment b st (x .slice)) (turnedAway b Sample)

@@ -1,18 +1,15 @@
--- Document 01, "Sensing": the square rule of the voltages, that none is above 20236, and that they rise with the code.
+-- Document 01, "Sensing": the square rule of the voltages, and that they rise with the code.
 -- Assumes nothing.
 use Prim.Native.Nat.{ℕ, _*_, _≤_, _<_}
 use native.Mathlib.Omega.{arith}
 use Rattle.rules.specs.Sensing.{voltage}
 use Rattle.roots.specs.Root.{IsRoot}
-use Rattle.roots.proofs.Roots.{root-below, root-rises, largest-root}
+use Rattle.roots.proofs.Roots.{root-rises, largest-root}
 
 -- the voltage of a code is the root of code × 100,000
 pub voltage-root : (k : ℕ) → k < 4096 → IsRoot (k * 100000) (voltage k)
 unfolding voltage
 voltage-root k h = largest-root 20236 (k * 100000) (omega arith)
-
-pub voltage-top : (k : ℕ) → k < 4096 → voltage k ≤ 20236
-voltage-top k h = root-below (voltage k) 20236 (k * 100000) (voltage-root k h .low) (omega arith)
 
 pub voltage-rises : (j k : ℕ) → j ≤ k → k < 4096 → voltage j ≤ voltage k
 voltage-rises j k h top = root-rises (omega arith) (voltage-root j (omega arith)) (voltage-root k top)

@@ -1,4 +1,4 @@
--- A whole root: the largest whole number whose square is at most n.
+-- Document 01, "Sensing" and rule 8: a whole root: the largest whole number whose square is at most n.
 -- Assumes nothing.
 use Prim.Native.Nat.{ℕ, _+_, _*_, _≤_, _<_}
 

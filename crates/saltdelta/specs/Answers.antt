@@ -1,4 +1,5 @@
--- What the calls of the C boundary answer and leave in lent memory, from the rules' step and the rules' reading of a sheet.
+-- Document 01, "One sample" and "Image and program": what the calls of the C boundary answer and leave in lent memory, from the
+-- rules' step and the rules' reading of a sheet.
 -- Assumes nothing.
 use mathlib.Core.List.{List}
 use Prim.Native.Nat.{ℕ}

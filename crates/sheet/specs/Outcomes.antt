@@ -1,4 +1,4 @@
--- The outcome of reading a sheet, against the rules' reading.
+-- Document 01, "The sheet": the outcome of reading a sheet, against the rules' reading.
 -- Assumes nothing.
 use mathlib.Core.Path.{_≡_}
 use Rattle.rules.specs.Sheets.{SheetReading}

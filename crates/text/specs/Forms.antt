@@ -1,4 +1,4 @@
--- The fourteen forms by number, and the numbers that a text begins with by a form.
+-- Document 01, "The sheet" and "Image and program": the fourteen forms by number, and the numbers that a text begins with by a form.
 -- Assumes nothing.
 use mathlib.Core.Bool.{cond}
 use mathlib.Core.List.{List, [], _∷_, _++_}
@@ -46,6 +46,7 @@ abbrev pub byteThen : ℕ → List ℕ → (List ℕ → Option Formed) → Opti
 byteThen mark [] rest = none
 byteThen mark (b ∷ s) rest = cond (eqb b mark) (rest s) none
 
+-- the numbers in the places of the form's marks, every other byte being the form's own
 unfoldable pub takeForm : List ℕ → List ℕ → Option Formed
 takeForm [] s = some (record { numbers = []; rest = s })
 takeForm (mark ∷ form) s = cond (isMark mark) (takenThen (takeMarked mark s) (takeForm form)) (byteThen mark s (takeForm form))

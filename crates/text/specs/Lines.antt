@@ -1,4 +1,4 @@
--- The numbers of a whole line, and of a sample line that stands at a place of a text.
+-- Document 01, "The sheet" and "Image and program": the numbers of a whole line, and of a sample line that stands at a place of a text.
 -- Assumes nothing.
 use mathlib.Core.Bool.{true, false, cond}
 use mathlib.Core.List.{List, map}
@@ -25,5 +25,6 @@ abbrev pub readThen : Option (List ℤ) → ℕ → ℕ → SampleAt
 readThen none at next = record { found = false; next = at; slice = replicate 7 0 }
 readThen (some ns) at next = record { found = true; next = next; slice = map natAbs ns }
 
+-- the sample line at a place of a text
 unfoldable pub sampleAt : List ℕ → ℕ → SampleAt
 sampleAt s at = readThen (endedSample (drop at s)) at (at + length (firstLine (drop at s)) + 1)

@@ -1,4 +1,4 @@
--- What is read straight through at a place of a text, against the rules' reading of the text from that place on.
+-- Document 01, "Image and program": what is read straight through at a place of a text, against the rules' reading of the text from that place on.
 -- Assumes nothing.
 use mathlib.Core.Path.{_≡_}
 use mathlib.Core.Bool.{cond, _||_}
