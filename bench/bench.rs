@@ -5,7 +5,7 @@
 //!     bench memory FILE PROGRAM...      peak memory (VmHWM) in kilobytes when the whole file is read; a line a program
 
 #[allow(dead_code)]
-#[path = "../comparison/compare/draw.rs"]
+#[path = "../tests/compare/draw.rs"]
 mod draw;
 
 use draw::{sample_line, Draws, DEFAULT};

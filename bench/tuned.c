@@ -1,4 +1,4 @@
-/* The `board` job of document 01 written for speed, as a yardstick: gcc -O3 tuned.c
+/* The job of `board` (docs/SPECIFICATION.md, section 10) written for speed, as a yardstick: gcc -O3 tuned.c
    One pass over the bytes, tables for voltages, rating, decimals and bits; nothing is proved of it. `bench/run` holds its output
    against the comparison program's. */
 
@@ -157,7 +157,7 @@ static inline void report(int status, uint32_t bits, uint32_t share, uint32_t wa
     *to++ = '\n';
 }
 
-/* Rules 1 to 8 for a sample of accepted form; the refusal's number, or 0. */
+/* Spec 6 and 7 for a sample of accepted form; the refusal's number, or 0. */
 static inline int step(board *b, const settings *s, const uint32_t *n) {
     if ((n[0] | n[1] | n[2]) > 4095) return CODE;
     uint32_t f = n[3];

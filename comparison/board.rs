@@ -1,16 +1,14 @@
-//! Ride-through, trip and return on the three-phase interface board.
-//!
-//! The comparison program: an implementation of document 01 written again from its text alone, by a hand that had seen neither
-//! the proved code nor its definitions nor its design, to be held against it. No code is shared.
+//! The comparison program: the job of `board` (docs/SPECIFICATION.md) once more, to be held against the proved one. It was written from the
+//! paper that the board was ordered by (document 01 there) and from nothing else, by a hand that had seen neither the proved code nor its
+//! definitions nor its design. No code is shared.
 //! Standard library only, one file:
 //!
 //!     rustc -O --edition 2021 board.rs            the program `board`
 //!     rustc -O --edition 2021 --test board.rs     its tests
 //!
-//! Voltage is in ten-thousandths of nominal, frequency in millihertz, power in
-//! ten-thousandths of rating, time in steps of 10 ms.
+//! Units: spec 1.2.
 //!
-//! Where document 01 leaves something open, the choice made is marked "Decision:".
+//! Where that paper leaves something open, the choice made is marked "Decision:".
 
 #![forbid(unsafe_code)]
 
@@ -400,7 +398,7 @@ fn check_sample(sample: &[u32]) -> Result<[u32; 7], u8> {
     Ok(numbers)
 }
 
-/// One more, up to the top, if `again`; otherwise 0. A count above its top is read as the top.
+/// One more, up to the top, if `again`; otherwise 0. It never gives more than the top, whatever was lent (spec 5.4).
 fn count(before: u32, top: u32, again: bool) -> u32 {
     if !again {
         0
@@ -436,7 +434,7 @@ pub fn step(board: &mut Board, settings: &Settings, sample: &[u32]) -> Result<Re
     let mut counters = [0; 9];
     let mut bits = [false; 9];
 
-    // Rule 1: the eight limits, always strictly.
+    // Spec 6.1 to 6.3: the eight limits, always strictly.
     for (i, trip) in settings.trips.iter().enumerate() {
         let broken = match i {
             0 | 1 => lowest < trip.limit,
@@ -449,7 +447,7 @@ pub fn step(board: &mut Board, settings: &Settings, sample: &[u32]) -> Result<Re
     }
     let any_limit_bit = bits[..8].contains(&true);
 
-    // Rule 2: the return counter. It too runs in every status.
+    // Spec 6.4, 6.5: the return counter. It too runs in every status.
     let volts_within = settings.volts.low <= lowest && highest <= settings.volts.high;
     let hertz_within = settings.hertz.low <= frequency && frequency <= settings.hertz.high;
     let wait = settings.wait.max(1); // a wait of 0 counts as 1
@@ -457,13 +455,12 @@ pub fn step(board: &mut Board, settings: &Settings, sample: &[u32]) -> Result<Re
     bits[8] = counters[8] == wait;
     let ready = bits[8];
 
-    // Rule 3: the worst band.
+    // Spec 6.9: the worst operating region (band).
     let band = band_of_voltage(lowest)
         .max(band_of_voltage(highest))
         .max(band_of_frequency(frequency));
 
-    // Rule 4: service and ramp. An unknown status is read as tripped, a tripped board's
-    // ramp count as 0, a ramp count above the ramp length as the ramp length.
+    // Spec 6.10 to 6.12: service and ramp, on the record as it is read (5.4).
     // The record's watts and vars are only written: no rule reads them, so how a lent
     // record's watts above 10000 are read shows nowhere.
     let in_service_before = (ENTERING..=CEASE).contains(&board.status);
@@ -477,7 +474,7 @@ pub fn step(board: &mut Board, settings: &Settings, sample: &[u32]) -> Result<Re
         ramp_before
     };
 
-    // Rule 5: status.
+    // Spec 6.13: status.
     let status = match band {
         _ if !in_service => TRIPPED,
         Band::Continuous if ramp < settings.ramp => ENTERING,
@@ -487,10 +484,10 @@ pub fn step(board: &mut Board, settings: &Settings, sample: &[u32]) -> Result<Re
         Band::Cease => CEASE,
     };
 
-    // Rule 6: share.
+    // Spec 6.14: share.
     let share = 10000 * i64::from(ramp) / i64::from(settings.ramp);
 
-    // Rules 7 and 8: vars and watts.
+    // Spec 7: vars and watts.
     let (watts, vars) = if (ENTERING..=MANDATORY).contains(&status) {
         let vars = curve(&settings.var, mean);
         let watts = i64::from(available)
@@ -700,7 +697,7 @@ pub fn run(mut input: impl Read, mut output: impl Write) -> io::Result<()> {
 }
 
 // ---------------------------------------------------------------------------
-// The mode `calls`: one library call a line (not of document 01)
+// The mode `calls`: one library call a line, for tests/library.sh
 // ---------------------------------------------------------------------------
 
 fn hex(bytes: &[u8]) -> String {
@@ -767,7 +764,7 @@ fn answer_call(call: &str, board: &mut Board, settings: &mut Settings) -> String
     }
 }
 
-/// The sheet that document 01 shows.
+/// The default sheet: spec 3.3.
 pub const DEFAULT_SHEET: &str = "\
 (trip (uv1 8800 2100))
 (trip (uv2 5000 200))
@@ -810,7 +807,7 @@ pub fn run_calls(input: impl Read, output: impl Write) -> io::Result<()> {
     output.flush()
 }
 
-/// Decision: document 01 names no exit status. It is 0, for a refused sheet too; after a
+/// Decision: the paper names no exit status. It is 0, for a refused sheet too; after a
 /// write error it is 1, since the output is not whole.
 fn main() -> ExitCode {
     let input = io::stdin().lock();
@@ -1322,7 +1319,7 @@ mod tests {
         assert_eq!(line_answer(13, "(watt (11000 10000) (11000 0))"), 3);
     }
 
-    /// Document 01's table, apart from `ROWS`.
+    /// The table of spec 3.5, apart from `ROWS`.
     const TABLE: [(&str, i64, i64, i64, i64); 11] = [
         ("trip (uv1", 0, 8800, 2100, 5000),
         ("trip (uv2", 0, 5000, 200, 2100),

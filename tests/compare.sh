@@ -1,11 +1,11 @@
 #!/usr/bin/env bash
-# The comparison: `board` and the comparison program, byte for byte, on thousands of made inputs (comparison/compare.rs).
+# The comparison: `board` and the comparison program, byte for byte, on thousands of made inputs (tests/compare/).
 # BOARD names another program to hold against the comparison program.
 set -u
 cd "$(dirname "$0")/.." || exit 2
 board=${BOARD:-target/bin/board}
 mkdir -p target/comparison
-if ! rustc -O --edition 2021 comparison/compare.rs -o target/comparison/compare; then
+if ! rustc -O --edition 2021 tests/compare/compare.rs -o target/comparison/compare; then
     echo "0 passed, 1 failed"
     exit 1
 fi

@@ -35,10 +35,11 @@ for statement in $(grep -E '^\|([^|]*\|){4}$' README.md | cut -d '|' -f 2 | grep
     expect $? "no statement $statement"
 done
 
-for crate in $(sed -nE 's/^([a-z]+):.*/\1/p' crates.txt); do
-    grep -qE "^\| \`$crate\` \|" README.md
-    expect $? "no line for the crate $crate"
-done
+# The crates, in the order of crates.txt.
+crates=$(sed -nE 's/^([a-z]+):.*/\1/p' crates.txt)
+listed=$(sed -nE 's/^\|[^|`]*\| `([a-z]+)` \|.*/\1/p' README.md)
+[ "$crates" = "$listed" ]
+expect $? "its crates are not those of crates.txt in their order: $(diff <(echo "$crates") <(echo "$listed") | tr '\n' ' ')"
 
 # The signature of a public function, up to the line of its body's brace.
 signature() {

@@ -1,49 +1,69 @@
 #!/usr/bin/env bash
-# docs/TRACE.md: its rows are numbered in order and whole, and each file and each name in them stands in the tree.
+# docs/TRACE.md against docs/SPECIFICATION.md, both ways: each clause has one row, in order, each row's clause is there, and each name in a row stands in
+# the tree. And each clause or section that any file cites (`spec 4.3`) is one of the specification's.
 set -u
 cd "$(dirname "$0")/.." || exit 2
 passed=0
 failed=0
-fail() {
-    failed=$((failed + 1))
-    echo "docs/TRACE.md, row $1: $2"
-}
-
-# A name stands in a file as a whole word: not as a part of another name.
-stands() {
-    grep -qE "(^|[^A-Za-z0-9_'-])$2([^A-Za-z0-9_'-]|\$)" "$1"
-}
-
-check() {
-    local row=$1 path=${2%%:*} name=""
-    case $2 in *:*) name=${2#*:} ;; esac
-    [ -e "$path" ] || path=crates/$path
-    if [ ! -f "$path" ]; then
-        fail "$row" "no file ${2%%:*}"
-    elif [ -n "$name" ] && ! stands "$path" "${name//./\\.}"; then
-        fail "$row" "no $name in $path"
-    else
+expect() {
+    if [ "$1" -eq 0 ]; then
         passed=$((passed + 1))
+    else
+        failed=$((failed + 1))
+        echo "$2"
     fi
 }
 
-expected=0
-not_built=0
+# A name stands in one of the files as a whole word: not as a part of another name.
+stands() {
+    local name=$1
+    shift
+    grep -qsE "(^|[^A-Za-z0-9_'-])${name//./\\.}([^A-Za-z0-9_'-]|\$)" "$@"
+}
+
+# Where the names of a row stand: see the head of docs/TRACE.md.
+found() {
+    local column=$1 name=$2
+    case $column,$name in
+    edit,*/*) [ -f "crates/${name%%/*}/must-fail/${name#*/}.edit" ] ;;
+    *,*::*) stands "${name#*::}" $(find "crates/${name%%::*}/src" -name '*.rt') ;;
+    *,*.md:* | *,*.sh:*) stands "${name#*:}" "${name%%:*}" ;;
+    *,*.rs:* | *,*.c:*) stands "${name#*:}" tests/compare/"${name%%:*}" tests/library/"${name%%:*}" comparison/"${name%%:*}" ;;
+    *,*/*:*) stands "${name#*:}" "crates/${name%%/*}"/{specs,proofs}/"$(basename "${name%%:*}")".antt ;;
+    *,*/*) [ -f "$name" ] || [ -f "crates/$name" ] ;;
+    *) grep -qE "^(abbrev )?pub (record )?$name :" crates/demands/specs/Demands.antt ;;
+    esac
+}
+
+clauses=$(sed -nE 's/^\*\*([0-9]+\.[0-9]+)\*\*.*/\1/p' docs/SPECIFICATION.md)
+rows=$(sed -nE 's/^\| ([0-9]+\.[0-9]+) \|.*/\1/p' docs/TRACE.md)
+[ -n "$clauses" ] && [ "$clauses" = "$rows" ]
+expect $? "docs/TRACE.md: its rows are not the clauses of docs/SPECIFICATION.md in their order: $(diff <(echo "$clauses") <(echo "$rows") | tr '\n' ' ')"
+[ "$clauses" = "$(sort -V -u <<< "$clauses")" ]
+expect $? "docs/SPECIFICATION.md: its clauses are not numbered in order"
+
+columns=(definition theorem edit test)
 while IFS= read -r line; do
-    expected=$((expected + 1))
-    line=${line//\\|/ }
-    IFS='|' read -r _ row _ definition contract edit test end <<< "$line"
-    row=${row// /}
-    if [ "$row" != "$expected" ] || [ -z "$test" ] || [ -n "$end" ]; then
-        fail "$row" "not row $expected of six cells"
-        continue
-    fi
-    case $line in *'not built'*) not_built=$((not_built + 1)) ;; esac
-    while IFS= read -r name; do
-        [ -n "$name" ] && check "$row" "$name"
-    done <<< "$(grep -o '`[^`]*`' <<< "$definition$contract$edit$test" | tr -d '`')"
-done < <(grep -E '^\| [0-9]+ \|' docs/TRACE.md)
-if [ "$expected" -eq 0 ]; then fail 0 "no rows"; fi
-echo "$expected rows, $not_built of them not built"
+    IFS='|' read -r _ clause _ c0 c1 c2 c3 end <<< "$line"
+    [ -n "$c3" ] && [ -z "$end" ]
+    expect $? "docs/TRACE.md,$clause: not six cells"
+    cells=("$c0" "$c1" "$c2" "$c3")
+    for i in 0 1 2 3; do
+        for name in $(grep -oE '`[^`]*`' <<< "${cells[i]}" | tr -d '`'); do
+            found "${columns[i]}" "$name"
+            expect $? "docs/TRACE.md,$clause: no $name"
+        done
+    done
+done < <(grep -E '^\| [0-9]+\.[0-9]+ \|' docs/TRACE.md)
+
+# Citations: a clause or a section after the word, and those that follow it after a comma, 'to' or 'and'.
+sections=$(sed -nE 's/^## ([0-9]+)\..*/\1/p' docs/SPECIFICATION.md)
+for cited in $(grep -rhoiE '\bspec [0-9]+(\.[0-9]+)?((, | to | and )[0-9]+\.[0-9]+)*' crates include tests comparison bench examples docs README.md crates.txt |
+    grep -oE '[0-9]+(\.[0-9]+)?' | sort -V -u); do
+    grep -qxF "$cited" <<< "$clauses
+$sections"
+    expect $? "cited and not in docs/SPECIFICATION.md: spec $cited"
+done
+
 echo "$passed passed, $failed failed"
 [ "$failed" -eq 0 ]

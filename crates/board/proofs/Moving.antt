@@ -9,6 +9,7 @@ use native.Mathlib.Omega.{arith}
 use borrow.Author.Tests.{ltb-true, ltb-false}
 use lib.Dec.{ltb}
 use lib.ListN.{length, getD, set, take, drop, length-drop}
+use Rattle.basics.proofs.Bools.{both}
 use lib.Seq.{length-take-le, drop-cons, set-at, append-snoc, take-suc, take-at, getD-append-add, getD-drop}
 
 -- the first i bytes from a place on stand at the front
@@ -70,10 +71,6 @@ rest-short m g done put taken a b f p q = f (undone put done (sym b ∙ q)) (non
     none true false r e l = omega (arith, ltb-false 0 taken r)
     none false t r e l = absurd (false≢true l)
 
-both-first : (a b : Bool) → (a && b) ≡ true → a ≡ true
-both-first true b e = refl
-both-first false b e = absurd (false≢true e)
-
 -- the program goes on only where the block's answers did
 pub goes-on : (g a b : Bool) → g ≡ (a && b) → g ≡ true → a ≡ true
-goes-on g a b e p = both-first a b (sym e ∙ p)
+goes-on g a b e p = both a b (sym e ∙ p) .0

@@ -1,4 +1,4 @@
-// The program `board`: document 01, "Image and program". A loop over read, respond and write; what is written for which input is
+// The program `board`: spec 10. A loop over read, respond and write; what is written for which input is
 // `respond`'s contract and the transcript law.
 ghost use mathlib.Core.Path.{_≡_};
 ghost use mathlib.Core.Bool.{true, _&&_};

@@ -15,7 +15,7 @@ use Rattle.rules.specs.Regions.{ourEquipment}
 use Rattle.rules.specs.Records.{fresh, turnedAway}
 use Rattle.rules.specs.Transcripts.{Line, ended, unended, lineStep}
 use Rattle.rules.specs.declared.Refusal.the-variants.{Sample}
-use Rattle.formats.specs.Marks.{written, suits, lineForms, lineForm, ReadsForms}
+use Rattle.formats.specs.Marks.{filledIn, suits, lineForms, lineForm, ReadsForms}
 use Rattle.formats.specs.Samples.{writable, writtenSample, IsSampleLine, AnswersSamples}
 use Rattle.formats.proofs.Samples.{sample-read}
 use Rattle.formats.proofs.SampleLines.{samples-answered}
@@ -30,12 +30,12 @@ suited : suits (lineForm 3) outside ≡ true
 unfolding suits lineForms sheetForms
 suited = refl
 
-missed : largeNoNumber (lineForm 3) (written (lineForm 3) outside) ≡ none
-unfolding largeNoNumber numbersOf takeNumber takeSigned leadingDigits afterDigits valueAfter wellFormed within all written signedDecimal decimal digitsBefore lineForms sheetForms sampleForm
+missed : largeNoNumber (lineForm 3) (filledIn (lineForm 3) outside) ≡ none
+unfolding largeNoNumber numbersOf takeNumber takeSigned leadingDigits afterDigits valueAfter wellFormed within all filledIn signedDecimal decimal digitsBefore lineForms sheetForms sampleForm
 missed = refl
 
 pub no-large : ¬ ReadsForms largeNoNumber
-no-large d = Option·none-ne-some outside (sym missed ∙ d 3 (omega arith) (written (lineForm 3) outside) outside .1 (record { text = refl; suit = suited }))
+no-large d = Option·none-ne-some outside (sym missed ∙ d 3 (omega arith) (filledIn (lineForm 3) outside) outside .1 (record { text = refl; suit = suited }))
 
 -- ---- a sample of document 01's listing
 
@@ -63,7 +63,7 @@ abbrev returned : List ℕ
 returned = writtenSample sample ++ (13 ∷ [])
 
 no-numbers : numbersOf sampleForm returned ≡ none
-unfolding numbersOf takeNumber takeSigned leadingDigits afterDigits valueAfter wellFormed within written writtenSample signedDecimal decimal digitsBefore sampleForm
+unfolding numbersOf takeNumber takeSigned leadingDigits afterDigits valueAfter wellFormed within filledIn writtenSample signedDecimal decimal digitsBefore sampleForm
 no-numbers = refl
 
 no-sample : ¬ IsSampleLine (ended returned)
@@ -72,7 +72,7 @@ no-sample l =
     Option·none-ne-some _ (sym no-numbers ∙ ap (numbersOf sampleForm) same ∙ sample-read (l .sample) (l .can))
 
 dropped : withoutReturn returned ≡ writtenSample sample
-unfolding withoutReturn written writtenSample signedDecimal decimal digitsBefore sampleForm
+unfolding withoutReturn filledIn writtenSample signedDecimal decimal digitsBefore sampleForm
 dropped = refl
 
 pub no-return : ¬ AnswersSamples stepsPastReturn

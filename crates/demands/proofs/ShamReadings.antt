@@ -14,7 +14,7 @@ use Rattle.rules.specs.Sheets.{SheetReading, refusedAt, readSheet}
 use Rattle.rules.specs.declared.Settings.{Settings}
 use Rattle.rules.specs.declared.Refusal.the-variants.{Range}
 use Rattle.rules.specs.declared.SettingsCheck.{SettingsCheck}
-use Rattle.formats.specs.Marks.{written}
+use Rattle.formats.specs.Marks.{filledIn}
 use Rattle.formats.specs.Sheets.{writtenLines, writtenSheet, Complete, ReadsSheetsBack, AcceptsSheetsOnly}
 use Rattle.formats.proofs.Sheets.{sheet-read-back}
 use Rattle.demands.specs.Shams.{exampleSheet, refusesNoWait, takesUnended}
@@ -49,7 +49,7 @@ abbrev short : List ℕ
 short = take (length (writtenSheet quick) - 1) (writtenSheet quick)
 
 ended : short ++ (feed ∷ []) ≡ writtenSheet quick
-unfolding writtenSheet writtenLines written sheetForms linesOf signedDecimal decimal digitsBefore
+unfolding writtenSheet writtenLines filledIn sheetForms linesOf signedDecimal decimal digitsBefore
 ended = refl
 
 pub let-in : ¬ AcceptsSheetsOnly takesUnended

@@ -10,6 +10,7 @@ use borrow.Author.Tests.{leb-true, eqb-true, le-leb, lt-leb, le-ltb, eq-eqb}
 use lib.Dec.{leb, ltb, eqb}
 use lib.ListN.{length, getD}
 use Rattle.rules.specs.Tests.{within}
+use Rattle.basics.proofs.Bools.{both}
 use Rattle.rules.specs.Text.{isDigit, leadingDigits, afterDigits, valueAfter, wellFormed, digitsBefore}
 
 pub record IsDigit (b : ℕ) : Type 0 where
@@ -19,10 +20,6 @@ pub record IsDigit (b : ℕ) : Type 0 where
 pub data AllDigits : List ℕ → Type 0 where
   end : AllDigits []
   more : {b : ℕ} {ds : List ℕ} → IsDigit b → AllDigits ds → AllDigits (b ∷ ds)
-
-pub both : (a b : Bool) → (a && b) ≡ true → (a ≡ true) × (b ≡ true)
-both true b e = (refl, e)
-both false b e = absurd (false≢true e)
 
 pub digit-is : (b : ℕ) → isDigit b ≡ true → IsDigit b
 unfolding within

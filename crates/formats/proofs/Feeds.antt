@@ -10,13 +10,10 @@ use lib.Dec.{eqb, leb}
 use lib.IntN.{ℤ, pos, negsuc}
 use Rattle.rules.specs.Text.{feed, signedDecimal, firstLine, hasFeed, afterLine}
 use Rattle.rules.specs.Forms.{signedMark}
-use Rattle.formats.specs.Marks.{isMark, numberThen, written, fits, fitsThen, suits}
-use Rattle.formats.proofs.Digits.{AllDigits, end, more, both}
+use Rattle.formats.specs.Marks.{isMark, numberThen, filledIn, fits, fitsThen, suits}
+use Rattle.basics.proofs.Bools.{both, neither}
+use Rattle.formats.proofs.Digits.{AllDigits, end, more}
 use Rattle.formats.proofs.Numbers.{decimal-digits}
-
-pub neither : (a b : Bool) → (a || b) ≡ false → (a ≡ false) × (b ≡ false)
-neither true b e = absurd (true≢false e)
-neither false b e = (refl, e)
 
 pub no-feeds : (xs ys : List ℕ) → hasFeed xs ≡ false → hasFeed ys ≡ false → hasFeed (xs ++ ys) ≡ false
 unfolding hasFeed
@@ -38,8 +35,8 @@ number-plain mark (pos n) f = digits-plain (decimal-digits n (leb-true n 999999 
 number-plain mark (negsuc n) f = digits-plain (decimal-digits (suc n) (leb-true (suc n) 999999 (both (eqb mark signedMark) (leb (suc n) 999999) f .1)))
 
 -- a form without a line feed, written out
-pub written-plain : (form : List ℕ) (ns : List ℤ) → hasFeed form ≡ false → suits form ns ≡ true → hasFeed (written form ns) ≡ false
-unfolding hasFeed written suits
+pub written-plain : (form : List ℕ) (ns : List ℤ) → hasFeed form ≡ false → suits form ns ≡ true → hasFeed (filledIn form ns) ≡ false
+unfolding hasFeed filledIn suits
 written-plain [] ns p f = refl
 written-plain (mark ∷ form) ns p f = by-mark (isMark mark) ns f (λ xs. written-plain form xs (tests .1))
   where
@@ -47,12 +44,12 @@ written-plain (mark ∷ form) ns p f = by-mark (isMark mark) ns f (λ xs. writte
     tests = neither (eqb mark feed) (hasFeed form) p
 
     by-mark : (t : Bool) (ns : List ℤ) → cond t (fitsThen mark ns (suits form)) (suits form ns) ≡ true
-        → ((xs : List ℤ) → suits form xs ≡ true → hasFeed (written form xs) ≡ false)
-        → hasFeed (cond t (numberThen ns (written form)) (mark ∷ written form ns)) ≡ false
+        → ((xs : List ℤ) → suits form xs ≡ true → hasFeed (filledIn form xs) ≡ false)
+        → hasFeed (cond t (numberThen ns (filledIn form)) (mark ∷ filledIn form ns)) ≡ false
     by-mark true [] f rest = absurd (false≢true f)
     by-mark true (n ∷ ns) f rest =
         let fit = both (fits mark n) (suits form ns) f in
-        no-feeds (signedDecimal n) (written form ns) (number-plain mark n (fit .0)) (rest ns (fit .1))
+        no-feeds (signedDecimal n) (filledIn form ns) (number-plain mark n (fit .0)) (rest ns (fit .1))
     by-mark false ns f rest = rw (tests .0) (rest ns f)
 
 -- ---- the first line of a text

@@ -13,8 +13,9 @@ use lib.ListN.{length, getD, length-append}
 use Rattle.rules.specs.Tests.{all, within}
 use Rattle.rules.specs.Text.{isDigit, signedDecimal, Taken, takeNumber, takeSigned}
 use Rattle.rules.specs.Forms.{numberMark, signedMark, sheetForms, sampleForm, andThen, onTaken, onByte, numbersOf}
-use Rattle.formats.specs.Marks.{isMark, marks, takeMarked, numberThen, written, fits, fitsThen, suits, IsLine, lineForms, lineForm, ReadsForms}
-use Rattle.formats.proofs.Digits.{both, NoDigit, empty, other}
+use Rattle.formats.specs.Marks.{isMark, marks, takeMarked, numberThen, filledIn, fits, fitsThen, suits, IsLine, lineForms, lineForm, ReadsForms}
+use Rattle.basics.proofs.Bools.{both}
+use Rattle.formats.proofs.Digits.{NoDigit, empty, other}
 use Rattle.formats.proofs.Numbers.{decimal-length, marked-written, written-marked}
 
 -- ---- one step along a form
@@ -51,7 +52,7 @@ Rest form = (s : List ℕ) (ns : List ℤ) → numbersOf form s ≡ some ns → 
 module _ (mark : ℕ) (form : List ℕ) (rest : Rest form) (s : List ℕ) (ns : List ℤ) where
   then-numbers : isMark mark ≡ true → (t : Taken) (o : Option (List ℤ)) → takeMarked mark s ≡ some t → numbersOf form (t .rest) ≡ o
       → andThen (t .value) o ≡ some ns → IsLine (mark ∷ form) s ns
-  unfolding written suits
+  unfolding filledIn suits
   then-numbers m t none q r e = absurd (Option·none-ne-some ns e)
   then-numbers m t (some xs) q r e =
       let same = Option·some-injective (t .value ∷ xs) ns e in
@@ -64,7 +65,7 @@ module _ (mark : ℕ) (form : List ℕ) (rest : Rest form) (s : List ℕ) (ns : 
   marked-line m (some t) q e = then-numbers m t (numbersOf form (t .rest)) q refl e
 
   byte-line : isMark mark ≡ false → onByte mark s (numbersOf form) ≡ some ns → IsLine (mark ∷ form) s ns
-  unfolding written suits
+  unfolding filledIn suits
   byte-line m e = by-text s e
     where
       by-text : (s : List ℕ) → onByte mark s (numbersOf form) ≡ some ns → IsLine (mark ∷ form) s ns
@@ -78,7 +79,7 @@ module _ (mark : ℕ) (form : List ℕ) (rest : Rest form) (s : List ℕ) (ns : 
               record { text = rw (m, eqb-true b mark q, ← l .text); suit = rw m (l .suit) }
 
 pub line-written : (form s : List ℕ) (ns : List ℤ) → numbersOf form s ≡ some ns → IsLine form s ns
-unfolding numbersOf written suits
+unfolding numbersOf filledIn suits
 line-written [] [] ns e = rw (← Option·some-injective [] ns e) (record { text = refl; suit = refl })
 line-written [] (b ∷ s) ns e = absurd (Option·none-ne-some ns e)
 line-written (mark ∷ form) s ns e = by-mark (isMark mark) refl (line-written form)
@@ -98,8 +99,8 @@ unfoldable pub separated : List ℕ → Bool
 separated [] = true
 separated (mark ∷ form) = cond (isMark mark) (plainNext form && separated form) (separated form)
 
-no-digit : (form : List ℕ) (ns : List ℤ) → plainNext form ≡ true → NoDigit (written form ns)
-unfolding written
+no-digit : (form : List ℕ) (ns : List ℤ) → plainNext form ≡ true → NoDigit (filledIn form ns)
+unfolding filledIn
 no-digit [] ns e = empty
 no-digit (b ∷ form) ns e =
     let tests = both (not (isMark b)) (not (isDigit b)) e in
@@ -107,28 +108,28 @@ no-digit (b ∷ form) ns e =
 
 -- a line that was written out and its first number
 marked-read : (mark : ℕ) (form : List ℕ) (ns : List ℤ) → isMark mark ≡ true → plainNext form ≡ true → fitsThen mark ns (suits form) ≡ true
-    → ((xs : List ℤ) → suits form xs ≡ true → numbersOf form (written form xs) ≡ some xs)
-    → onTaken (takeMarked mark (numberThen ns (written form))) (numbersOf form) ≡ some ns
+    → ((xs : List ℤ) → suits form xs ≡ true → numbersOf form (filledIn form xs) ≡ some xs)
+    → onTaken (takeMarked mark (numberThen ns (filledIn form))) (numbersOf form) ≡ some ns
 marked-read mark form [] m p f rest = absurd (false≢true f)
 marked-read mark form (n ∷ ns) m p f rest =
     let fit = both (fits mark n) (suits form ns) f in
-    rw (written-marked mark n (written form ns) m (fit .0) (no-digit form ns p), rest ns (fit .1))
+    rw (written-marked mark n (filledIn form ns) m (fit .0) (no-digit form ns p), rest ns (fit .1))
 
-pub written-read : (form : List ℕ) (ns : List ℤ) → separated form ≡ true → suits form ns ≡ true → numbersOf form (written form ns) ≡ some ns
-unfolding written suits separated numbersOf
+pub written-read : (form : List ℕ) (ns : List ℤ) → separated form ≡ true → suits form ns ≡ true → numbersOf form (filledIn form ns) ≡ some ns
+unfolding filledIn suits separated numbersOf
 written-read [] [] p f = refl
 written-read [] (n ∷ ns) p f = absurd (false≢true f)
 written-read (mark ∷ form) ns p f = by-mark (isMark mark) refl p f (written-read form)
   where
     by-mark : (t : Bool) → isMark mark ≡ t → cond t (plainNext form && separated form) (separated form) ≡ true
         → cond t (fitsThen mark ns (suits form)) (suits form ns) ≡ true
-        → ((xs : List ℤ) → separated form ≡ true → suits form xs ≡ true → numbersOf form (written form xs) ≡ some xs)
-        → numbersOf (mark ∷ form) (cond t (numberThen ns (written form)) (mark ∷ written form ns)) ≡ some ns
+        → ((xs : List ℤ) → separated form ≡ true → suits form xs ≡ true → numbersOf form (filledIn form xs) ≡ some xs)
+        → numbersOf (mark ∷ form) (cond t (numberThen ns (filledIn form)) (mark ∷ filledIn form ns)) ≡ some ns
     by-mark true m p f rest =
         let apart = both (plainNext form) (separated form) p in
-        numbers-marked mark form (numberThen ns (written form)) m
+        numbers-marked mark form (numberThen ns (filledIn form)) m
         ∙ marked-read mark form ns m (apart .0) f (λ xs. rest xs (apart .1))
-    by-mark false m p f rest = rw (numbers-byte mark form (mark ∷ written form ns) m, eq-eqb mark mark refl) (rest ns p f)
+    by-mark false m p f rest = rw (numbers-byte mark form (mark ∷ filledIn form ns) m, eq-eqb mark mark refl) (rest ns p f)
 
 -- ---- the fourteen forms
 
@@ -169,16 +170,16 @@ suits-length (mark ∷ form) ns f = by-mark (isMark mark) ns f (suits-length for
     by-mark false ns f rest = rest ns f
 
 -- a number takes at most six bytes more than its mark
-pub written-length : (form : List ℕ) (ns : List ℤ) → suits form ns ≡ true → length (written form ns) ≤ length form + 6 * marks form
-unfolding written suits marks
+pub written-length : (form : List ℕ) (ns : List ℤ) → suits form ns ≡ true → length (filledIn form ns) ≤ length form + 6 * marks form
+unfolding filledIn suits marks
 written-length [] ns f = omega arith
 written-length (mark ∷ form) ns f = by-mark (isMark mark) ns f (written-length form)
   where
     by-mark : (t : Bool) (ns : List ℤ) → cond t (fitsThen mark ns (suits form)) (suits form ns) ≡ true
-        → ((xs : List ℤ) → suits form xs ≡ true → length (written form xs) ≤ length form + 6 * marks form)
-        → length (cond t (numberThen ns (written form)) (mark ∷ written form ns)) ≤ suc (length form) + 6 * cond t (suc (marks form)) (marks form)
+        → ((xs : List ℤ) → suits form xs ≡ true → length (filledIn form xs) ≤ length form + 6 * marks form)
+        → length (cond t (numberThen ns (filledIn form)) (mark ∷ filledIn form ns)) ≤ suc (length form) + 6 * cond t (suc (marks form)) (marks form)
     by-mark true [] f rest = absurd (false≢true f)
     by-mark true (n ∷ ns) f rest =
         let fit = both (fits mark n) (suits form ns) f in
-        omega (arith, length-append (signedDecimal n) (written form ns), signed-length mark n (fit .0), rest ns (fit .1))
+        omega (arith, length-append (signedDecimal n) (filledIn form ns), signed-length mark n (fit .0), rest ns (fit .1))
     by-mark false ns f rest = omega (arith, rest ns f)

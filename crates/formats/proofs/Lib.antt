@@ -1,4 +1,3 @@
-pub mod Places
 pub mod Digits
 pub mod Numbers
 pub mod Forms

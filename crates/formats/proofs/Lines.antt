@@ -18,9 +18,9 @@ use Rattle.rules.specs.Sheets.{pairs, settingsOf, SheetReading, refusedAt, onNu
 use Rattle.rules.specs.declared.Refusal.{Refusal}
 use Rattle.rules.specs.declared.Refusal.the-variants.{Form, Range, Rise}
 use Rattle.rules.specs.declared.SettingsCheck.{SettingsCheck}
-use Rattle.formats.specs.Marks.{marks, written, suits}
-use Rattle.formats.specs.Sheets.{numbersIn, writtenLines}
-use Rattle.formats.proofs.Digits.{both}
+use Rattle.formats.specs.Marks.{marks, filledIn, suits}
+use Rattle.formats.specs.Sheets.{pairNumbers, writtenLines}
+use Rattle.basics.proofs.Bools.{both}
 use Rattle.formats.proofs.Forms.{separated, line-written, written-read, suits-length}
 use Rattle.formats.proofs.Feeds.{written-plain, begins, line-feed}
 use Rattle.formats.proofs.Rows.{marksOf, endsFit, row-suits, pairs-back, numbers-back}
@@ -28,7 +28,7 @@ use Rattle.formats.proofs.Rows.{marksOf, endsFit, row-suits, pairs-back
 -- ---- good lines: none of the causes 1, 2, 3
 
 pub record GoodLine (r : Row) (form : List ℕ) (ps : List Pair) : Type 0 where
-  pub suit : suits form (numbersIn ps) ≡ true
+  pub suit : suits form (pairNumbers ps) ≡ true
   pub within : all (map (inRow r) ps) ≡ true
   pub rises : rising ps ≡ true
 
@@ -85,7 +85,7 @@ good-checked end n = refl
 good-checked (more g gs) n = rw (g .within, g .rises) (good-checked gs (suc n))
 
 abbrev pub amount : List Pair → ℕ
-amount ps = length (numbersIn ps)
+amount ps = length (pairNumbers ps)
 
 pub checked-good : (n : ℕ) (rs : List Row) (forms : List (List ℕ)) (lines : List (List Pair)) → agree rs forms ≡ true → map amount lines ≡ map marks forms
     → checkFrom n rs lines ≡ SettingsCheck.Accepted → GoodLines rs forms lines
@@ -114,12 +114,12 @@ past start line = start + length line + 1
 
 module _ (r : Row) (form : List ℕ) (ps : List Pair) (g : GoodLine r form ps) (plain : hasFeed form ≡ false) (apart : separated form ≡ true) where
   line-read : (n start : ℕ) (read : List (List Pair)) (rs : List Row) (forms : List (List ℕ)) (rest : List ℕ)
-      → readFrom n start read (r ∷ rs) (form ∷ forms) (written form (numbersIn ps) ++ (feed ∷ rest))
-      ≡ readFrom (suc n) (past start (written form (numbersIn ps))) (read ++ (ps ∷ [])) rs forms rest
+      → readFrom n start read (r ∷ rs) (form ∷ forms) (filledIn form (pairNumbers ps) ++ (feed ∷ rest))
+      ≡ readFrom (suc n) (past start (filledIn form (pairNumbers ps))) (read ++ (ps ∷ [])) rs forms rest
   unfolding readFrom
   line-read n start read rs forms rest =
-      let b = begins (written form (numbersIn ps)) rest (written-plain form (numbersIn ps) plain (g .suit)) in
-      rw (b .ended, b .first, b .after, written-read form (numbersIn ps) apart (g .suit), pairs-back ps, g .within, g .rises)
+      let b = begins (filledIn form (pairNumbers ps)) rest (written-plain form (pairNumbers ps) plain (g .suit)) in
+      rw (b .ended, b .first, b .after, written-read form (pairNumbers ps) apart (g .suit), pairs-back ps, g .within, g .rises)
 
 pub good-read : {rs : List Row} {forms : List (List ℕ)} {lines : List (List Pair)} → agree rs forms ≡ true → GoodLines rs forms lines
     → (n start : ℕ) (read : List (List Pair)) (after : List ℕ)
@@ -128,7 +128,7 @@ unfolding readFrom writtenLines
 good-read t end n start read after = rw (append-nil read, add-zero)
 good-read t (more {r} {form} {ps} {rs} {forms} {lines} g gs) n start read after =
     let a = agreed r form rs forms t in
-    let line = written form (numbersIn ps) in
+    let line = filledIn form (pairNumbers ps) in
     let place : past start line + length (writtenLines forms lines) ≡ start + length (line ++ (feed ∷ writtenLines forms lines))
     = omega (arith, length-append line (feed ∷ writtenLines forms lines)) in
     ap (readFrom n start read (r ∷ rs) (form ∷ forms)) (append-assoc line (feed ∷ writtenLines forms lines) after)
@@ -159,9 +159,9 @@ module _ (r : Row) (form : List ℕ) (rs : List Row) (forms : List (List ℕ)) (
   line-begun f ns e i k b =
       let w = line-written form (firstLine s) ns e in
       let same = numbers-back r form ns fit (suits-length form ns (w .suit)) in
-      let line = written form (numbersIn (pairs ns)) in
+      let line = filledIn form (pairNumbers (pairs ns)) in
       let here : GoodLine r form (pairs ns) = record { suit = rw same (w .suit); within = i; rises = k } in
-      let first : firstLine s ≡ line = w .text ∙ ap (written form) (sym same) in
+      let first : firstLine s ≡ line = w .text ∙ ap (filledIn form) (sym same) in
       record {
         lines = pairs ns ∷ b .lines;
         rest = b .rest;

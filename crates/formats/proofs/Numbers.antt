@@ -15,7 +15,8 @@ use lib.ListN.{length, getD, length-append, List·getD-append}
 use Rattle.rules.specs.Text.{minus, leadingDigits, afterDigits, valueAfter, wellFormed, digitsBefore, decimal, signedDecimal, Taken, takeNumber, negated, takeSigned}
 use Rattle.rules.specs.Forms.{numberMark, signedMark}
 use Rattle.formats.specs.Marks.{isMark, takeMarked, fits}
-use Rattle.formats.proofs.Digits.{IsDigit, AllDigits, end, more, NoDigit, WellFormed, both, well-formed, formed-well, written-back, value-below, value-snoc, all-snoc, tens, tens-mono, leading-digits, leading-after, leading-append, after-append}
+use Rattle.basics.proofs.Bools.{both}
+use Rattle.formats.proofs.Digits.{IsDigit, AllDigits, end, more, NoDigit, WellFormed, well-formed, formed-well, written-back, value-below, value-snoc, all-snoc, tens, tens-mono, leading-digits, leading-after, leading-append, after-append}
 
 -- ---- decimal, and the digits that it writes
 

@@ -15,8 +15,8 @@ use Rattle.rules.specs.Forms.{signedMark}
 use Rattle.rules.specs.Settings.{Pair, Row, inRow}
 use Rattle.rules.specs.Sheets.{pairs}
 use Rattle.formats.specs.Marks.{isMark, marks, fits, fitsThen, suits}
-use Rattle.formats.specs.Sheets.{numbersIn}
-use Rattle.formats.proofs.Digits.{both}
+use Rattle.formats.specs.Sheets.{pairNumbers}
+use Rattle.basics.proofs.Bools.{both}
 
 -- ---- the marks of a form, in order
 
@@ -97,8 +97,8 @@ inside r p e =
     let c = both (leZ (r .secondLow) (p .second)) (leZ (p .second) (r .secondHigh) && true) (b .1) in
     record { firstLow = a .0; firstHigh = b .0; secondLow = c .0; secondHigh = both (leZ (p .second) (r .secondHigh)) true (c .1) .0 }
 
-marks-suit : (r : Row) (ms : List ℕ) (ps : List Pair) → endsFit r ms ≡ true → length (numbersIn ps) ≡ length ms → all (map (inRow r) ps) ≡ true
-    → suits ms (numbersIn ps) ≡ true
+marks-suit : (r : Row) (ms : List ℕ) (ps : List Pair) → endsFit r ms ≡ true → length (pairNumbers ps) ≡ length ms → all (map (inRow r) ps) ≡ true
+    → suits ms (pairNumbers ps) ≡ true
 unfolding suits endsFit all
 marks-suit r [] [] e l i = refl
 marks-suit r [] (p ∷ ps) e l i = absurd (omega arith)
@@ -113,21 +113,21 @@ marks-suit r (m ∷ k ∷ ms) (p ∷ ps) e l i =
     rw (t .first, a, t .second, b) (marks-suit r ms ps (t .rest) (omega arith) (tests .1))
 
 -- as many numbers as the form has marks, each inside the row
-pub row-suits : (r : Row) (form : List ℕ) (ps : List Pair) → endsFit r (marksOf form) ≡ true → length (numbersIn ps) ≡ marks form → all (map (inRow r) ps) ≡ true
-    → suits form (numbersIn ps) ≡ true
-row-suits r form ps e l i = suits-marks form (numbersIn ps) ∙ marks-suit r (marksOf form) ps e (rw (marks-length form) l) i
+pub row-suits : (r : Row) (form : List ℕ) (ps : List Pair) → endsFit r (marksOf form) ≡ true → length (pairNumbers ps) ≡ marks form → all (map (inRow r) ps) ≡ true
+    → suits form (pairNumbers ps) ≡ true
+row-suits r form ps e l i = suits-marks form (pairNumbers ps) ∙ marks-suit r (marksOf form) ps e (rw (marks-length form) l) i
 
 -- ---- two by two, and one after the other
 
-pub two-each : (ps : List Pair) → length (numbersIn ps) ≡ 2 * length ps
+pub two-each : (ps : List Pair) → length (pairNumbers ps) ≡ 2 * length ps
 two-each [] = refl
 two-each (p ∷ ps) = omega (arith, two-each ps)
 
-pub pairs-back : (ps : List Pair) → pairs (numbersIn ps) ≡ ps
+pub pairs-back : (ps : List Pair) → pairs (pairNumbers ps) ≡ ps
 pairs-back [] = refl
 pairs-back (p ∷ ps) = ap (λ (k : List Pair). p ∷ k) (pairs-back ps)
 
-marks-back : (r : Row) (ms : List ℕ) (ns : List ℤ) → endsFit r ms ≡ true → length ns ≡ length ms → numbersIn (pairs ns) ≡ ns
+marks-back : (r : Row) (ms : List ℕ) (ns : List ℤ) → endsFit r ms ≡ true → length ns ≡ length ms → pairNumbers (pairs ns) ≡ ns
 unfolding endsFit
 marks-back r ms [] e l = refl
 marks-back r [] (n ∷ ns) e l = absurd (omega arith)
@@ -135,5 +135,5 @@ marks-back r (m ∷ []) (n ∷ ns) e l = absurd (false≢true e)
 marks-back r (m ∷ k ∷ ms) (n ∷ []) e l = absurd (omega arith)
 marks-back r (m ∷ k ∷ ms) (a ∷ b ∷ ns) e l = ap (λ (k : List ℤ). a ∷ b ∷ k) (marks-back r ms ns (two-marks r m k ms e .rest) (omega arith))
 
-pub numbers-back : (r : Row) (form : List ℕ) (ns : List ℤ) → endsFit r (marksOf form) ≡ true → length ns ≡ marks form → numbersIn (pairs ns) ≡ ns
+pub numbers-back : (r : Row) (form : List ℕ) (ns : List ℤ) → endsFit r (marksOf form) ≡ true → length ns ≡ marks form → pairNumbers (pairs ns) ≡ ns
 numbers-back r form ns e l = marks-back r (marksOf form) ns e (rw (marks-length form) l)

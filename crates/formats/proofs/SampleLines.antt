@@ -23,7 +23,7 @@ use Rattle.rules.specs.declared.SettingsCheck.{SettingsCheck}
 use Rattle.rules.specs.declared.SampleCheck.{SampleCheck}
 use Rattle.rules.specs.declared.Stepped.{Stepped}
 use Rattle.formats.specs.Samples.{sixDigits, writable, writtenSample, IsSampleLine, Answering, AnswersSamples}
-use Rattle.formats.proofs.Digits.{both}
+use Rattle.basics.proofs.Bools.{both}
 use Rattle.formats.proofs.Samples.{sample-read, sample-written}
 
 -- ---- a step with seven numbers is not refused with 8

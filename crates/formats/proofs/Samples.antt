@@ -18,9 +18,9 @@ use Rattle.rules.specs.Transcripts.{Line, ended, linesAfter, linesIn}
 use Rattle.rules.specs.Forms.{signedMark, sampleForm, numbersOf}
 use Rattle.formats.specs.Marks.{isMark, marks, fits, fitsThen, suits}
 use Rattle.formats.specs.Samples.{sixDigits, writable, writtenSample, ReadsBack, BeginsWithSample}
-use Rattle.formats.proofs.Digits.{both}
+use Rattle.basics.proofs.Bools.{both, neither}
 use Rattle.formats.proofs.Forms.{separated, line-written, written-read, suits-length}
-use Rattle.formats.proofs.Feeds.{neither, written-plain}
+use Rattle.formats.proofs.Feeds.{written-plain}
 
 -- ---- a form without `~`, and numbers that are not negative
 

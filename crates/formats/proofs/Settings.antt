@@ -20,9 +20,9 @@ use Rattle.rules.specs.declared.Limit.{Limit}
 use Rattle.rules.specs.declared.Point.{Point}
 use Rattle.rules.specs.declared.Settings.{Settings}
 use Rattle.formats.specs.Marks.{marks}
-use Rattle.formats.specs.Sheets.{numbersIn, Complete}
-use Rattle.formats.proofs.Places.{counted, counted-all, counted-same}
-use Rattle.formats.proofs.Digits.{both}
+use Rattle.formats.specs.Sheets.{pairNumbers, Complete}
+use Rattle.basics.proofs.Tables.{tabulated, tabulated-all, tabulated-same}
+use Rattle.basics.proofs.Bools.{both}
 use Rattle.formats.proofs.Forms.{suits-length}
 use Rattle.formats.proofs.Rows.{two-each, inside}
 use Rattle.formats.proofs.Lines.{GoodLine, GoodLines, end, more}
@@ -36,11 +36,11 @@ points-back : (l : List Point) → map pointOf (map pointPair l) ≡ l
 points-back [] = refl
 points-back (p ∷ l) = ap (λ (k : List Point). p ∷ k) (points-back l)
 
-points-all : (n : ℕ) (l : List Point) → length l ≡ n → counted (λ k. pointOf (getD (map pointPair l) k noPair)) 0 n ≡ l
-points-all n l e = counted-all pointOf noPair n (map pointPair l) (length-map l pointPair ∙ e) ∙ points-back l
+points-all : (n : ℕ) (l : List Point) → length l ≡ n → tabulated (λ k. pointOf (getD (map pointPair l) k noPair)) 0 n ≡ l
+points-all n l e = tabulated-all pointOf noPair n (map pointPair l) (length-map l pointPair ∙ e) ∙ points-back l
 
-limits-all : (l : List Limit) → length l ≡ 8 → counted (λ k. getD l k noLimit) 0 8 ≡ l
-limits-all l e = counted-same noLimit 8 l e
+limits-all : (l : List Limit) → length l ≡ 8 → tabulated (λ k. getD l k noLimit) 0 8 ≡ l
+limits-all l e = tabulated-same noLimit 8 l e
 
 pub settings-back : (st : Settings) → Complete st → settingsOf (linesOf st) ≡ st
 unfolding settingsOf linesOf
@@ -75,7 +75,7 @@ asKept b p = pair (pos (natAbs (p .first))) (cond b (p .second) (pos (natAbs (p 
 
 abbrev keptLines : ℕ → List Kept → List (List Pair) → List (List Pair)
 keptLines i [] lines = []
-keptLines i (k ∷ ks) lines = counted (λ j. asKept (k .signed) (getD (getD lines i []) j noPair)) 0 (k .count) ∷ keptLines (suc i) ks lines
+keptLines i (k ∷ ks) lines = tabulated (λ j. asKept (k .signed) (getD (getD lines i []) j noPair)) 0 (k .count) ∷ keptLines (suc i) ks lines
 
 unfoldable ours : List Kept
 ours = replicate 11 (kept 1 false) ++ (kept 4 true ∷ kept 2 true ∷ [])
@@ -115,13 +115,13 @@ module _ (b : Bool) (r : Row) (first : nonNeg (r .firstLow) ≡ true) (second : 
       (pairs-kept ps (tests .1))
 
 line-kept : (k : Kept) (r : Row) (form : List ℕ) (ps : List Pair) → keeps k r form ≡ true → GoodLine r form ps
-    → counted (λ j. asKept (k .signed) (getD ps j noPair)) 0 (k .count) ≡ ps
+    → tabulated (λ j. asKept (k .signed) (getD ps j noPair)) 0 (k .count) ≡ ps
 unfolding keeps
 line-kept k r form ps e g =
     let tests = both (nonNeg (r .firstLow) && (k .signed || nonNeg (r .secondLow))) (eqb (2 * k .count) (marks form)) e in
     let signs = both (nonNeg (r .firstLow)) (k .signed || nonNeg (r .secondLow)) (tests .0) in
-    let amount : length ps ≡ k .count = omega (arith, two-each ps, suits-length form (numbersIn ps) (g .suit), eqb-true (2 * k .count) (marks form) (tests .1)) in
-    counted-all (asKept (k .signed)) noPair (k .count) ps amount ∙ pairs-kept (k .signed) r (signs .0) (signs .1) ps (g .within)
+    let amount : length ps ≡ k .count = omega (arith, two-each ps, suits-length form (pairNumbers ps) (g .suit), eqb-true (2 * k .count) (marks form) (tests .1)) in
+    tabulated-all (asKept (k .signed)) noPair (k .count) ps amount ∙ pairs-kept (k .signed) r (signs .0) (signs .1) ps (g .within)
 
 good-kept : {rs : List Row} {forms : List (List ℕ)} {lines : List (List Pair)} (ks : List Kept) → allKept ks rs forms ≡ true → GoodLines rs forms lines
     → (before : List (List Pair)) → keptLines (length before) ks (before ++ lines) ≡ lines

@@ -16,7 +16,7 @@ use Rattle.rules.specs.Sheets.{settingsOf, SheetReading, readFrom, readSheet}
 use Rattle.rules.specs.Defaults.{defaultSheet, defaultSettings}
 use Rattle.rules.specs.declared.Settings.{Settings}
 use Rattle.rules.specs.declared.SettingsCheck.{SettingsCheck}
-use Rattle.formats.specs.Marks.{marks, written}
+use Rattle.formats.specs.Marks.{marks, filledIn}
 use Rattle.formats.specs.Sheets.{writtenLines, writtenSheet, Complete, BeginsWithSheet, ReadsSheetsBack, AcceptsSheetsOnly, AcceptAlike}
 use Rattle.formats.proofs.Forms.{separated}
 use Rattle.formats.proofs.Rows.{endsFit, two-each}
@@ -95,8 +95,8 @@ one-reading read back out s =
       same = there;
     }
 
--- ---- document 01's default sheet
+-- ---- the default sheet
 
 pub default-written : writtenSheet defaultSettings ≡ defaultSheet
-unfolding writtenSheet writtenLines written defaultSettings defaultSheet sheetForms linesOf settingsOf readSheet readFrom numbersOf takeNumber takeSigned leadingDigits afterDigits valueAfter wellFormed within firstLine hasFeed afterLine rows inRow rising all decimal signedDecimal digitsBefore
+unfolding writtenSheet writtenLines filledIn defaultSettings defaultSheet sheetForms linesOf settingsOf readSheet readFrom numbersOf takeNumber takeSigned leadingDigits afterDigits valueAfter wellFormed within firstLine hasFeed afterLine rows inRow rising all decimal signedDecimal digitsBefore
 default-written = refl

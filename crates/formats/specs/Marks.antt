@@ -1,4 +1,4 @@
--- Document 01, "The sheet" and "Image and program": a form's marks, the numbers that they stand for, a line written out, and what a line
+-- Spec 3.2, 3.4: a form's marks, the numbers that they stand for, a line written out, and what a line
 -- of a form is.
 -- Assumes nothing.
 use mathlib.Core.Path.{_≡_}
@@ -33,9 +33,9 @@ numberThen [] rest = rest []
 numberThen (n ∷ ns) rest = signedDecimal n ++ rest ns
 
 -- a form with its numbers in the places of its marks
-unfoldable pub written : List ℕ → List ℤ → List ℕ
-written [] ns = []
-written (mark ∷ form) ns = cond (isMark mark) (numberThen ns (written form)) (mark ∷ written form ns)
+unfoldable pub filledIn : List ℕ → List ℤ → List ℕ
+filledIn [] ns = []
+filledIn (mark ∷ form) ns = cond (isMark mark) (numberThen ns (filledIn form)) (mark ∷ filledIn form ns)
 
 -- ---- the numbers that can be written: at most six digits, and a minus only where the mark allows one
 
@@ -57,7 +57,7 @@ suits (mark ∷ form) ns = cond (isMark mark) (fitsThen mark ns (suits form)) (s
 
 -- the line is the form with numbers that suit it in the places of its marks
 pub record IsLine (form line : List ℕ) (ns : List ℤ) : Type 0 where
-  pub text : line ≡ written form ns
+  pub text : line ≡ filledIn form ns
   pub suit : suits form ns ≡ true
 
 -- the fourteen forms: the sheet's thirteen, and the sample's

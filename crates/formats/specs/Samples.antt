@@ -1,4 +1,4 @@
--- Document 01, "Image and program": a sample line written out, the samples that can be, and what a line that is read must be.
+-- Spec 10.2: a sample line written out, the samples that can be, and what a line that is read must be.
 -- Assumes nothing.
 use mathlib.Core.Path.{_≡_}
 use mathlib.Core.Bool.{Bool, true, _&&_}
@@ -18,7 +18,7 @@ use Rattle.rules.specs.declared.Settings.{Settings}
 use Rattle.rules.specs.declared.Board.{Board}
 use Rattle.rules.specs.declared.Refusal.the-variants.{Sample}
 use Rattle.rules.specs.declared.Stepped.{Stepped}
-use Rattle.formats.specs.Marks.{written}
+use Rattle.formats.specs.Marks.{filledIn}
 
 abbrev pub sixDigits : ℕ → Bool
 sixDigits n = leb n 999999
@@ -28,7 +28,7 @@ abbrev pub writable : List ℕ → Bool
 writable x = eqb (length x) 7 && all (map sixDigits x)
 
 unfoldable pub writtenSample : List ℕ → List ℕ
-writtenSample x = written sampleForm (map pos x)
+writtenSample x = filledIn sampleForm (map pos x)
 
 -- an ended line that is such a sample written out
 pub record IsSampleLine (l : Line) : Type 0 where
@@ -42,8 +42,8 @@ pub record IsSampleLine (l : Line) : Type 0 where
 abbrev pub Answering : Type 0
 Answering = Equipment → Settings → Board → Line → Stepped
 
--- a sample written out, its line ended, is answered as the sample is; and a line is refused with 8, no step being taken, exactly when it is no such line:
--- "sample line unended or not of its form"
+-- a sample written out, its line ended, is answered as the sample is; and a line is refused with 8, no step being taken, exactly when it is
+-- no such line (spec 11.1)
 pub record AnswersSamples (answer : Answering) : Type 0 where
   pub steps : (e : Equipment) (st : Settings) (b : Board) (x : Slice) → writable x ≡ true → answer e st b (ended (writtenSample x)) ≡ stepOf e b st x
   pub refuses : (e : Equipment) (st : Settings) (b : Board) (l : Line) → (answer e st b l ≡ turnedAway b Sample) ↔ (¬ IsSampleLine l)

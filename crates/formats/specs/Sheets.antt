@@ -1,4 +1,4 @@
--- Document 01, "The sheet": settings written out as a sheet, and what a text that is accepted must be.
+-- Spec 3.1 to 3.6: settings written out as a sheet, and what a text that is accepted must be.
 -- Assumes nothing.
 use mathlib.Core.Path.{_≡_}
 use mathlib.Core.Bool.{true}
@@ -13,25 +13,25 @@ use Rattle.rules.specs.Settings.{Pair, linesOf, settingsAccepted}
 use Rattle.rules.specs.Sheets.{SheetReading}
 use Rattle.rules.specs.declared.Settings.{Settings}
 use Rattle.rules.specs.declared.SettingsCheck.{SettingsCheck}
-use Rattle.formats.specs.Marks.{written}
+use Rattle.formats.specs.Marks.{filledIn}
 
 -- the numbers of a line, one after the other
-abbrev pub numbersIn : List Pair → List ℤ
-numbersIn [] = []
-numbersIn (p ∷ ps) = p .first ∷ p .second ∷ numbersIn ps
+abbrev pub pairNumbers : List Pair → List ℤ
+pairNumbers [] = []
+pairNumbers (p ∷ ps) = p .first ∷ p .second ∷ pairNumbers ps
 
--- lines of these forms with these numbers, "each ended by a line feed"
+-- lines of these forms with these numbers, each with its line feed
 unfoldable pub writtenLines : List (List ℕ) → List (List Pair) → List ℕ
 writtenLines [] lines = []
 writtenLines (form ∷ forms) [] = []
-writtenLines (form ∷ forms) (ps ∷ lines) = written form (numbersIn ps) ++ (feed ∷ writtenLines forms lines)
+writtenLines (form ∷ forms) (ps ∷ lines) = filledIn form (pairNumbers ps) ++ (feed ∷ writtenLines forms lines)
 
--- "Thirteen lines, in this order": each the form of its line with the numbers that the settings have for it
+-- spec 3.2: each line is its form with the numbers that the settings have for it
 unfoldable pub writtenSheet : Settings → List ℕ
 writtenSheet st = writtenLines sheetForms (linesOf st)
 
--- eight limits, "four and [...] two pairs of voltage and power": the lengths of the declared arrays. Settings of the code always have
--- them; `Settings` here holds lists, which may have others
+-- eight limits, four points and two: the lengths of the declared arrays. Settings of the code always have them; `Settings` here holds
+-- lists, which may have others
 pub record Complete (st : Settings) : Type 0 where
   pub limits : length (st .trip) ≡ 8
   pub varPoints : length (st .var) ≡ 4

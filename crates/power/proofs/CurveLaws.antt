@@ -1,4 +1,4 @@
--- Rule 7, for any list of points: a curve keeps every bound and the sign that all its powers keep, and is the curve of fewer points on either side of a point.
+-- Spec 7.1 and 7.2, for any list of points: a curve keeps every bound and the sign that all its powers keep, and is the curve of fewer points on either side of a point.
 -- Assumes nothing.
 use mathlib.Core.Path.{_≡_, refl}
 use mathlib.Core.Bool.{Bool, true, false, cond}

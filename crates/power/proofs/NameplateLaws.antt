@@ -1,4 +1,4 @@
--- Rule 8: the nameplate is the root of what vars leave, and one test tells whether a power is above it.
+-- Spec 7.4: the nameplate is the root of what vars leave, and one test tells whether a power is above it.
 -- Assumes nothing.
 use mathlib.Core.Path.{_≡_, sym, subst}
 use Prim.Native.Nat.{ℕ, _+_, _-_, _*_, _≤_, _<_, min}

@@ -1,4 +1,4 @@
--- Rule 7: the left power plus a share of the difference, cut toward zero, keeps every bound and the sign that both powers keep.
+-- Spec 7.2: the left power plus a share of the difference, cut toward zero, keeps every bound and the sign that both powers keep.
 -- Assumes nothing.
 use mathlib.Core.Path.{_≡_, refl, sym, ap, _∙_}
 use mathlib.Core.Bool.{Bool, true, false, cond}
@@ -9,7 +9,8 @@ use borrow.Author.Tests.{ltb-false, le-ltb}
 use lib.Dec.{T, ltb}
 use lib.IntN.{ℤ, pos, negsuc, negℤ, natAbs, subℕ, _+ℤ_, _-ℤ_, _*ℤ_, negℤ-negℤ, negℤ-+ℤ, +ℤ-comm, +ℤ-idr, +ℤ-invr, -ℤ-+ℤ-cancel}
 use lib.Signed.{quotZ, nonNeg}
-use Rattle.power.proofs.Magnitude.{abs-neg, abs-sub}
+use Rattle.basics.proofs.Signs.{abs-neg}
+use Rattle.power.proofs.Magnitude.{abs-sub}
 
 -- a power difference added to the left power is the right power
 right-power : (a b : ℤ) → a +ℤ (b -ℤ a) ≡ b

@@ -1,4 +1,4 @@
--- The machine's numbers in `between`, each read back from its bits: each fits an i32, so each is the number that rule 7 has.
+-- The machine's numbers in `between`, each read back from its bits: each fits an i32, so each is the number that spec 7.2 has.
 -- Assumes nothing.
 use mathlib.Core.Path.{_≡_, sym, ap, _∙_}
 use Prim.Native.Nat.{ℕ, _≤_}
@@ -10,7 +10,8 @@ use mir.Syntax.{w32}
 use mir.Val.{SFits, toZ, ofZ}
 use mir.Facts.{toZ-ofZ, toZ-pos}
 use Rattle.power.specs.Points.{Inside}
-use Rattle.power.proofs.Magnitude.{fits, kept, abs-neg, abs-add, abs-mul, abs-quot}
+use Rattle.basics.proofs.Signs.{abs-neg}
+use Rattle.power.proofs.Magnitude.{fits, kept, abs-add, abs-mul, abs-quot}
 use Rattle.power.proofs.Shares.{no-share, between-small}
 
 abbrev back : ℤ → ℤ
@@ -29,7 +30,7 @@ abbrev sum : ℤ → ℤ → ℕ → ℕ → ℤ
 sum a b x g = back a +ℤ back (quotient a b x g)
 
 module _ (a b : ℤ) (x g : ℕ) (ok : Inside a b x g) where
-  -- rule 7's number
+  -- the number of spec 7.2
   abbrev ruled : ℤ
   ruled = a +ℤ quotZ ((b -ℤ a) *ℤ pos x) (pos g)
 
@@ -78,7 +79,7 @@ module _ (a b : ℤ) (x g : ℕ) (ok : Inside a b x g) where
   pub result-is : back (sum a b x g) ≡ ruled
   result-is = toZ-ofZ sum-fits ∙ sum-is
 
-  -- ---- powers with the same bits are the same, and then rule 7's number is that power
+  -- ---- powers with the same bits are the same, and then the number of spec 7.2 is that power
 
   same-powers : ofZ w32 a ≡ ofZ w32 b → a ≡ b
   same-powers e = sym (kept a (omega arith)) ∙ ap (toZ w32) e ∙ kept b (omega arith)

@@ -1,4 +1,4 @@
--- Document 01, "The sheet" and rule 7: points of a curve that a sheet can hold.
+-- Spec 3.5, 3.6: points of a curve that a sheet can hold.
 -- Assumes nothing.
 use mathlib.Core.List.{List, [], _∷_}
 use Prim.Native.Nat.{ℕ, _≤_, _<_}

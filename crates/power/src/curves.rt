@@ -1,4 +1,4 @@
-// Rule 7: a curve is flat outside its points, and straight between two of them.
+// Spec 7.1, 7.2: a curve is flat outside its points, and straight between two of them.
 ghost use mathlib.Core.Path.{_≡_};
 ghost use mathlib.Core.List.{[], _∷_};
 ghost use Prim.Native.Nat.{_≤_};

@@ -1,4 +1,4 @@
-// Rule 8: the largest whole p with p * p + vars * vars at most 100,000,000.
+// Spec 7.4: the watts that the nameplate leaves beside vars.
 ghost use mathlib.Core.Path.{_≡_};
 ghost use Prim.Native.Nat.{_*_, _≤_, min};
 ghost use lib.IntN.{natAbs};

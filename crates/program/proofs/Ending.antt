@@ -12,7 +12,8 @@ use Rattle.rules.specs.Transcripts.{Line, ended, unended, linesIn}
 use Rattle.program.specs.States.{isDone}
 use Rattle.program.specs.Saying.{said}
 use Rattle.program.specs.declared.State.{State}
-use Rattle.program.proofs.Framing.{lines-fed, lines-unfed, feed-past-plain, line-past-plain, after-past-plain}
+use Rattle.formats.proofs.Feeds.{plain-feed, plain-line, plain-after}
+use Rattle.program.proofs.Framing.{lines-fed, lines-unfed}
 use Rattle.program.proofs.Resuming.{done-said, droppedFrom, dropped-said}
 
 unfoldable pub doneAfter : Equipment → State → List Line → Bool
@@ -42,9 +43,9 @@ module _ (e : Equipment) where
     where
       by-feed : isDone q ≡ false → (k : Bool) → hasFeed t ≡ k → doneAfter e q (linesIn (s ++ t)) ≡ doneAfter e (droppedFrom q s) (linesIn t)
       by-feed p true f =
-          done-fed q (s ++ t) (feed-past-plain s t plain ∙ f)
-          ∙ rw (line-past-plain s t plain, after-past-plain s t plain, dropped-said e q s (q .long) refl long (firstLine t) p) (sym (done-fed (droppedFrom q s) t f))
-      by-feed p false f = done-unfed q (s ++ t) (feed-past-plain s t plain ∙ f) ∙ sym (done-unfed (droppedFrom q s) t f)
+          done-fed q (s ++ t) (plain-feed s t plain ∙ f)
+          ∙ rw (plain-line s t plain, plain-after s t plain, dropped-said e q s (q .long) refl long (firstLine t) p) (sym (done-fed (droppedFrom q s) t f))
+      by-feed p false f = done-unfed q (s ++ t) (plain-feed s t plain ∙ f) ∙ sym (done-unfed (droppedFrom q s) t f)
 
       by-done : (k : Bool) → isDone q ≡ k → doneAfter e q (linesIn (s ++ t)) ≡ doneAfter e (droppedFrom q s) (linesIn t)
       by-done true p = done-done q (linesIn (s ++ t)) p ∙ sym (done-done (droppedFrom q s) (linesIn t) p)

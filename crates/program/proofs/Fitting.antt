@@ -12,6 +12,7 @@ use Rattle.rules.specs.Samples.{Equipment}
 use Rattle.rules.specs.Transcripts.{inputEnd}
 use Rattle.rules.specs.declared.Settings.{Settings}
 use Rattle.rules.specs.declared.SettingsCheck.{SettingsCheck}
+use Rattle.basics.proofs.Bools.{both}
 use Rattle.text.specs.Forms.{formAt}
 use Rattle.sheet.specs.Storing.{onLine}
 use Rattle.program.specs.States.{isDone, readsSheet, stopped, sensible, readState, Fit}
@@ -56,17 +57,12 @@ fit-said e {q} {n} l p f h = rw p (by (readsSheet q) refl)
 
 -- ---- the test
 
-and-true : (a b : Bool) → (a && b) ≡ true → (a ≡ true) × (b ≡ true)
-and-true true true e = (refl, refl)
-and-true true false e = absurd (false≢true e)
-and-true false b e = absurd (false≢true e)
-
 pub sensible-fit : (q : State) → sensible q ≡ true → Fit q 0
 unfolding sensible
 sensible-fit q e =
-    let a = and-true (leb 1 (q .line)) (leb (q .taken) inputEnd && (leb (q .line) (q .taken + 1) && (not (readsSheet q) || leb (q .line) 13))) e in
-    let b = and-true (leb (q .taken) inputEnd) (leb (q .line) (q .taken + 1) && (not (readsSheet q) || leb (q .line) 13)) (a .1) in
-    let c = and-true (leb (q .line) (q .taken + 1)) (not (readsSheet q) || leb (q .line) 13) (b .1) in
+    let a = both (leb 1 (q .line)) (leb (q .taken) inputEnd && (leb (q .line) (q .taken + 1) && (not (readsSheet q) || leb (q .line) 13))) e in
+    let b = both (leb (q .taken) inputEnd) (leb (q .line) (q .taken + 1) && (not (readsSheet q) || leb (q .line) 13)) (a .1) in
+    let c = both (leb (q .line) (q .taken + 1)) (not (readsSheet q) || leb (q .line) 13) (b .1) in
     record {
       from-one = leb-true 1 (q .line) (a .0);
       low = leb-true (q .line) (q .taken + 1) (c .0);

@@ -10,6 +10,7 @@ use lib.Dec.{eqb}
 use lib.ListN.{length, take}
 use lib.Seq.{append-snoc, take-append-add}
 use Rattle.rules.specs.Text.{feed, firstLine, hasFeed, afterLine}
+use Rattle.formats.proofs.Feeds.{line-feed}
 use Rattle.rules.specs.Transcripts.{ended, lastLine, linesAfter, linesIn}
 
 lines-after : (before s : List ℕ)
@@ -64,33 +65,6 @@ after-front (b ∷ s) t e = by (eqb b feed) e (after-front s t)
 
 -- ---- a text without one
 
-pub feed-past-plain : (s t : List ℕ) → hasFeed s ≡ false → hasFeed (s ++ t) ≡ hasFeed t
-unfolding hasFeed
-feed-past-plain [] t e = refl
-feed-past-plain (b ∷ s) t e = by (eqb b feed) e (feed-past-plain s t)
-  where
-    by : (k : Bool) → (k || hasFeed s) ≡ false → (hasFeed s ≡ false → hasFeed (s ++ t) ≡ hasFeed t) → (k || hasFeed (s ++ t)) ≡ hasFeed t
-    by true p rec = absurd (false≢true (sym p))
-    by false p rec = rec p
-
-pub line-past-plain : (s t : List ℕ) → hasFeed s ≡ false → firstLine (s ++ t) ≡ s ++ firstLine t
-unfolding hasFeed firstLine
-line-past-plain [] t e = refl
-line-past-plain (b ∷ s) t e = by (eqb b feed) e (line-past-plain s t)
-  where
-    by : (k : Bool) → (k || hasFeed s) ≡ false → (hasFeed s ≡ false → firstLine (s ++ t) ≡ s ++ firstLine t) → cond k [] (b ∷ firstLine (s ++ t)) ≡ b ∷ (s ++ firstLine t)
-    by true p rec = absurd (false≢true (sym p))
-    by false p rec = ap (λ (l : List ℕ). b ∷ l) (rec p)
-
-pub after-past-plain : (s t : List ℕ) → hasFeed s ≡ false → afterLine (s ++ t) ≡ afterLine t
-unfolding hasFeed afterLine
-after-past-plain [] t e = refl
-after-past-plain (b ∷ s) t e = by (eqb b feed) e (after-past-plain s t)
-  where
-    by : (k : Bool) → (k || hasFeed s) ≡ false → (hasFeed s ≡ false → afterLine (s ++ t) ≡ afterLine t) → cond k (s ++ t) (afterLine (s ++ t)) ≡ afterLine t
-    by true p rec = absurd (false≢true (sym p))
-    by false p rec = rec p
-
 -- a cut of it has none either
 pub plain-cut : (n : ℕ) (s : List ℕ) → hasFeed s ≡ false → hasFeed (take n s) ≡ false
 unfolding hasFeed
@@ -104,16 +78,6 @@ plain-cut (suc n) (b ∷ s) e = by (eqb b feed) e (plain-cut n s)
 
 -- ---- the first line with its line feed, and more of what follows
 
-split : (s : List ℕ) → hasFeed s ≡ true → s ≡ firstLine s ++ (feed ∷ afterLine s)
-unfolding hasFeed firstLine afterLine
-split [] p = absurd (false≢true p)
-split (b ∷ s) p = by (eqb b feed) refl p (split s)
-  where
-    by : (k : Bool) → eqb b feed ≡ k → (k || hasFeed s) ≡ true → (hasFeed s ≡ true → s ≡ firstLine s ++ (feed ∷ afterLine s))
-        → b ∷ s ≡ cond k [] (b ∷ firstLine s) ++ (feed ∷ cond k s (afterLine s))
-    by true e q rec = ap (λ (n : ℕ). n ∷ s) (eqb-true b feed e)
-    by false e q rec = ap (λ (l : List ℕ). b ∷ l) (rec q)
-
 pub line-plain : (s : List ℕ) → hasFeed (firstLine s) ≡ false
 unfolding hasFeed firstLine
 line-plain [] = refl
@@ -123,15 +87,9 @@ line-plain (b ∷ s) = by (eqb b feed) refl (line-plain s)
     by true e rec = refl
     by false e rec = rw e rec
 
-pub lines-line : (l rest : List ℕ) → hasFeed l ≡ false → linesIn (l ++ (feed ∷ rest)) ≡ ended l ∷ linesIn rest
-unfolding hasFeed firstLine afterLine
-lines-line l rest p =
-    lines-fed (l ++ (feed ∷ rest)) (feed-past-plain l (feed ∷ rest) p)
-    ∙ rw (line-past-plain l (feed ∷ rest) p, after-past-plain l (feed ∷ rest) p, append-nil l)
-
 -- so many bytes: the first line with its line feed, and m bytes more
 pub take-line : (s : List ℕ) (m : ℕ) → hasFeed s ≡ true → take (length (firstLine s) + 1 + m) s ≡ firstLine s ++ (feed ∷ take m (afterLine s))
 take-line s m f =
     let l = firstLine s in
     let n : length l + 1 + m ≡ length l + suc m = omega arith in
-    ap (λ (k : ℕ). take k s) n ∙ ap (take (length l + suc m)) (split s f) ∙ take-append-add l (feed ∷ afterLine s) (suc m)
+    ap (λ (k : ℕ). take k s) n ∙ ap (take (length l + suc m)) (line-feed s f) ∙ take-append-add l (feed ∷ afterLine s) (suc m)

@@ -12,6 +12,7 @@ use lib.Seq.{take-length, drop-length, drop-drop}
 use Rattle.rules.specs.Samples.{Equipment}
 use Rattle.rules.specs.Text.{feed, firstLine, hasFeed, afterLine}
 use Rattle.rules.specs.Transcripts.{Line, linesIn}
+use Rattle.basics.proofs.Bools.{neither}
 use Rattle.text.proofs.Lines.{line-after, line-ended}
 use Rattle.program.specs.States.{Fit, isDone, readsSheet, stopped}
 use Rattle.program.specs.Saying.{Said, said, resume}
@@ -20,10 +21,6 @@ use Rattle.program.proofs.Framing.{lines-fed, lines-unfed, line-plain, 
 use Rattle.program.proofs.Resuming.{resume-fed, resume-unfed, resume-line, done-resume, said-taken, dropped-resume}
 use Rattle.program.proofs.Ending.{doneAfter, done-fed, done-done, done-dropped}
 use Rattle.program.proofs.Fitting.{fit-less, fit-stopped, fit-said}
-
-neither : (a b : Bool) → (a || b) ≡ false → (a ≡ false) × (b ≡ false)
-neither true b e = absurd (false≢true (sym e))
-neither false b e = (refl, e)
 
 drop-none : (t : ℕ) (s : List ℕ) → drop (t - t) s ≡ s
 drop-none t s = let z : t - t ≡ 0 = omega arith in rw z

@@ -22,7 +22,9 @@ use borrow.Author.Tests.{ltb-true}
 use Rattle.program.specs.States.{isDone, readsSheet}
 use Rattle.program.specs.Saying.{numbersIn, onCheck, sheetLine, sampleLine, said, isSome, endText, following, resume}
 use Rattle.program.specs.declared.State.{State}
-use Rattle.program.proofs.Framing.{lines-fed, lines-unfed, lines-line, feed-past-plain, line-past-plain, after-past-plain}
+use Rattle.formats.proofs.Feeds.{plain-feed, plain-line, plain-after}
+use Rattle.formats.proofs.Samples.{plain-first}
+use Rattle.program.proofs.Framing.{lines-fed, lines-unfed}
 
 module _ (e : Equipment) where
   pub resume-fed : (q : State) (s : List ℕ) → hasFeed s ≡ true
@@ -37,7 +39,7 @@ module _ (e : Equipment) where
 
   pub resume-line : (q : State) (l s : List ℕ) → hasFeed l ≡ false → resume e q (l ++ (feed ∷ s)) ≡ said e q l .text ++ resume e (said e q l .state) s
   unfolding following
-  resume-line q l s p = ap (following e q) (lines-line l s p)
+  resume-line q l s p = ap (following e q) (plain-first l s p)
 
   -- ---- all done
 
@@ -133,10 +135,10 @@ module _ (e : Equipment) (q : State) (s : List ℕ) (b : Bool) (is : q .long ≡
     where
       by-feed : isDone q ≡ false → (k : Bool) → hasFeed t ≡ k → resume e q (s ++ t) ≡ resume e (droppedFrom q s) t
       by-feed p true f =
-          resume-fed e q (s ++ t) (feed-past-plain s t plain ∙ f)
-          ∙ rw (line-past-plain s t plain, after-past-plain s t plain, dropped-said (firstLine t) p) (sym (resume-fed e (droppedFrom q s) t f))
+          resume-fed e q (s ++ t) (plain-feed s t plain ∙ f)
+          ∙ rw (plain-line s t plain, plain-after s t plain, dropped-said (firstLine t) p) (sym (resume-fed e (droppedFrom q s) t f))
       by-feed p false f =
-          resume-unfed e q (s ++ t) (feed-past-plain s t plain ∙ f)
+          resume-unfed e q (s ++ t) (plain-feed s t plain ∙ f)
           ∙ dropped-end t ∙ sym (resume-unfed e (droppedFrom q s) t f)
 
       by-done : (k : Bool) → isDone q ≡ k → resume e q (s ++ t) ≡ resume e (droppedFrom q s) t

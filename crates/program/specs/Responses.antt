@@ -1,4 +1,4 @@
--- Document 01, "Image and program": what `respond` makes of a state, a block of input and the size of a lent buffer.
+-- Spec 10.13: what `respond` makes of a state, a block of input and the size of a lent buffer.
 -- Assumes nothing.
 use mathlib.Core.Bool.{Bool, true, cond, _||_}
 use mathlib.Core.List.{List, [], _∷_, _++_}
@@ -49,7 +49,7 @@ handled e ends size h [] = cond (stops size h) h (atTail ends h [])
 handled e ends size h (ended l ∷ ls) = cond (stops size h) h (handled e ends size (andSaid h (said e (h .state) l)) ls)
 handled e ends size h (unended l ∷ ls) = cond (stops size h) h (atTail ends h l)
 
--- how many bytes may still be taken: "Its input ends at byte 1,000,000,000,000 at the latest"
+-- spec 10.9: how many bytes may still be taken
 abbrev pub budget : State → ℕ
 budget q = inputEnd - q .taken
 

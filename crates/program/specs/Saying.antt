@@ -1,4 +1,4 @@
--- Document 01, "Image and program" and "Turned-away input": what the program writes for each line, from a state, and at the end.
+-- Spec 10.3 to 10.8: what the program writes for each line, from a state, and at the end.
 -- Assumes nothing.
 use mathlib.Core.Bool.{Bool, true, false, cond, _||_}
 use mathlib.Core.List.{List, [], _∷_, _++_}
@@ -35,7 +35,7 @@ numbersIn long form l = cond long none (numbersOf form l)
 abbrev pub phaseAfter : ℕ → ℕ
 phaseAfter line = cond (eqb line 13) 1 0
 
--- "A refused sheet ends the program"; n is how many bytes the line took
+-- spec 10.6: a refused sheet ends all; n is how many bytes the line took
 abbrev pub onCheck : State → ℕ → Settings → SettingsCheck → Said
 onCheck q n st (SettingsCheck.Refused cause line) = record { state = stopped q n; text = refusedLine cause line }
 onCheck q n st SettingsCheck.Accepted =

@@ -1,4 +1,4 @@
--- Document 01, "Image and program": the transcript law: however an input is cut into blocks, what `respond` writes, put together, is the transcript of the input.
+-- Spec 10.13, the transcript law: however an input is cut into blocks, what `respond` writes, put together, is the input's transcript.
 -- Assumes nothing.
 use mathlib.Core.Path.{_≡_}
 use mathlib.Core.Bool.{Bool, true, false}

@@ -1,4 +1,4 @@
-// Document 01, "Image and program": the program's state between blocks of input. What it means stands in specs/.
+// Spec 10.13: the program's state between blocks of input. What it means stands in specs/.
 use rules::Board;
 use rules::Settings;
 

@@ -1,4 +1,4 @@
--- Document 01, "Sensing": the square rule of the voltages, and that they rise with the code.
+-- Spec 2.2: the square rule of the voltages, and that they rise with the code.
 -- Assumes nothing.
 use Prim.Native.Nat.{ℕ, _*_, _≤_, _<_}
 use native.Mathlib.Omega.{arith}

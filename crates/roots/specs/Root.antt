@@ -1,4 +1,4 @@
--- Document 01, "Sensing" and rule 8: a whole root: the largest whole number whose square is at most n.
+-- Spec 2.2, 7.4: a whole root.
 -- Assumes nothing.
 use Prim.Native.Nat.{ℕ, _+_, _*_, _≤_, _<_}
 

@@ -1,4 +1,4 @@
--- Document 01, "One sample", rules 1 and 2: the nine counters, each by one rule.
+-- Spec 6.1 to 6.6: the nine counters, each by one rule.
 -- Assumes nothing.
 use mathlib.Core.Bool.{Bool, cond}
 use mathlib.Core.List.{List, [], _∷_, _++_}
@@ -14,27 +14,27 @@ pub record Rule : Type 0 where
   pub counts : Slice → Bool
   pub top : ℕ
 
--- one more if the sample counts, up to the top; otherwise 0. So a limit's counter, and so the ninth's consecutive steps
+-- spec 6.1, 6.4: one more if the sample counts, up to the top; otherwise 0
 abbrev pub counted : Slice → Rule → ℕ → ℕ
 counted x r n = cond (r .counts x) (min (r .top) (suc n)) 0
 
--- a bit is 1 when its counter equals its top
+-- spec 6.3, 6.5: the bit of a counter
 abbrev pub full : Rule → ℕ → Bool
 full r n = eqb n (r .top)
 
--- ---- rule 1: the eight limits
+-- ---- the eight limits
 
 pub data Kind : Type 0 where
   undervoltage overvoltage underfrequency overfrequency : Kind
 
--- a limit is broken: "uv: lowest voltage below; ov: highest above; uf, of likewise, always strictly"
+-- spec 6.2: a limit is broken, strictly
 unfoldable pub broken : Equipment → Kind → ℕ → Slice → Bool
 broken e undervoltage level x = ltb (lowest e x) level
 broken e overvoltage level x = ltb level (highest e x)
 broken e underfrequency level x = ltb (frequency x) level
 broken e overfrequency level x = ltb level (frequency x)
 
--- limit i of the sheet counts up to its clearing time
+-- spec 6.1: limit i of the sheet, with its clearing time as the top
 abbrev pub limitRule : Equipment → Settings → Kind → ℕ → Rule
 limitRule e st k i = record { counts = broken e k (limitAt st i .level); top = limitAt st i .clearing }
 
@@ -59,9 +59,9 @@ limitRules e st i (k ∷ ks) = limitRule e st k i ∷ limitRules e st (suc i) ks
 abbrev pub tripRules : Equipment → Settings → List Rule
 tripRules e st = limitRules e st 0 kinds
 
--- ---- rule 2: the ninth counter
+-- ---- the ninth counter
 
--- the enter-service criteria: permission 1, lowest and highest voltage within "volts", frequency within "hertz"
+-- spec 6.4: the enter-service criteria
 unfoldable pub inRange : Equipment → Settings → Slice → Bool
 inRange e st x =
     all (permitted x
@@ -70,10 +70,10 @@ inRange e st x =
     ∷ within (st .hertz .low) (st .hertz .high) (frequency x)
     ∷ [])
 
--- "up to the wait; a wait of 0 counts as 1"
+-- spec 6.4: its top is the return wait, at least 1
 abbrev pub readyRule : Equipment → Settings → Rule
 readyRule e st = record { counts = inRange e st; top = max 1 (st .wait) }
 
--- all nine: the limits in sheet order, then ready
+-- all nine: the limits in sheet order, then ready (spec 8.1)
 abbrev pub rules : Equipment → Settings → List Rule
 rules e st = tripRules e st ++ (readyRule e st ∷ [])

@@ -1,4 +1,4 @@
--- Document 01, "The sheet": "The standard's default values, with the watt line a house default."
+-- Spec 3.3: the default sheet.
 -- Assumes nothing.
 use mathlib.Core.List.{List, [], _∷_, _++_}
 use Prim.Native.Nat.{ℕ}

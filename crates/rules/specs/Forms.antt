@@ -1,4 +1,4 @@
--- Document 01, "The sheet" and "Image and program": the form of each line, by one template matcher for all of them.
+-- Spec 3.2, 10.2: the form of each line, by one template matcher for all of them.
 -- Assumes nothing.
 use mathlib.Core.Bool.{cond}
 use mathlib.Core.List.{List, [], _∷_, map}
@@ -8,14 +8,14 @@ use lib.Dec.{eqb}
 use lib.IntN.{ℤ}
 use Rattle.rules.specs.Text.{bytes, Taken, takeNumber, takeSigned}
 
--- in a form `#` stands for a number, `~` for one that may have a minus, and any other byte for itself
+-- spec 3.2: in a form `#` stands for a number, `~` for one that may have a minus, and any other byte for itself
 abbrev pub numberMark : ℕ
 numberMark = 35
 
 abbrev pub signedMark : ℕ
 signedMark = 126
 
--- the sheet's thirteen lines, in order, one space between items
+-- spec 3.2: the sheet's lines, in order
 unfoldable pub sheetForms : List (List ℕ)
 sheetForms =
     map bytes
@@ -34,7 +34,7 @@ sheetForms =
     ∷ "(watt (# #) (# #))"
     ∷ [])
 
--- codes, frequency, permission, available power, operator's limit
+-- spec 10.2: codes, frequency, permission, available power, operator's limit
 unfoldable pub sampleForm : List ℕ
 sampleForm = bytes "(at (# # #) # # # #)"
 

@@ -1,4 +1,4 @@
--- Document 01, "Sensing": a mean-square code and its voltage, in ten-thousandths of nominal.
+-- Spec 2.1 to 2.4: a mean-square code and its voltage.
 -- Assumes nothing.
 use mathlib.Core.Bool.{Bool, cond}
 use Prim.Native.Nat.{ℕ, zero, suc, _*_}
@@ -11,15 +11,15 @@ unfoldable pub largest : (ℕ → Bool) → ℕ → ℕ
 largest test zero = 0
 largest test (suc bound) = cond (test (suc bound)) (suc bound) (largest test bound)
 
--- the largest code
+-- spec 2.1: the largest code
 abbrev pub lastCode : ℕ
 lastCode = 4095
 
--- "The largest whole number whose square is at most code × 100,000", for codes 0 to 4095: its square is at most code × 100,000 and the
--- next number's is not, which `voltage-root` of the crate `roots` shows. Above 4095 it is not used: such a code is refused.
+-- spec 2.2, for codes 0 to 4095: `SensingRule` of the crate `demands` says it without the search. Above 4095 it is not used: such a code is
+-- refused.
 unfoldable pub voltage : ℕ → ℕ
 voltage code = largest (λ v. leb (v * v) (code * 100000)) 20236
 
--- "Turned-away input" 4, and "Errors close at hand": a code above the table is refused, never given the last entry
+-- spec 2.4: a code above the table is refused
 unfoldable pub sensed : ℕ → Sensed
 sensed code = cond (leb code lastCode) (Sensed.Volts (voltage code)) (Sensed.Refused Code)

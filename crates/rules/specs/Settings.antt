@@ -1,4 +1,4 @@
--- Document 01, "The sheet" and "Turned-away input": the allowed values, and refusals 2 and 3 of settings in sheet order.
+-- Spec 3.5, 3.6, 4.3: the allowed values, and refusals 2 and 3 of settings in sheet order.
 -- Assumes nothing.
 use mathlib.Core.Bool.{Bool, true, false, cond, _&&_}
 use mathlib.Core.List.{List, [], _∷_, map}
@@ -15,7 +15,7 @@ use Rattle.rules.specs.declared.Refusal.{Refusal}
 use Rattle.rules.specs.declared.Refusal.the-variants.{Range, Rise}
 use Rattle.rules.specs.declared.SettingsCheck.{SettingsCheck}
 
--- two numbers of a sheet line; a var line has four pairs, a watt line two, any other line one
+-- two numbers of a sheet line (spec 3.2): a var line has four pairs, a watt line two, any other line one
 pub record Pair : Type 0 where
   pub first : ℤ
   pub second : ℤ
@@ -33,7 +33,7 @@ pub record Row : Type 0 where
 abbrev pub row : ℕ → ℕ → ℕ → ℕ → Row
 row a b c d = record { firstLow = pos a; firstHigh = pos b; secondLow = pos c; secondHigh = pos d }
 
--- "one constant table of lowest and highest, ends included": a row a line, in sheet order
+-- spec 3.5: a row a line, in sheet order
 unfoldable pub rows : List Row
 rows =
     row 0 8800 2100 5000  -- uv1
@@ -60,13 +60,13 @@ inRow r p =
     ∷ leZ (p .second) (r .secondHigh)
     ∷ [])
 
--- "Voltages along a curve must rise strictly"; a line of one pair has nothing to rise
+-- spec 3.6; a line of one pair has nothing to rise
 unfoldable pub rising : List Pair → Bool
 rising [] = true
 rising (p ∷ []) = true
 rising (p ∷ q ∷ ps) = ltZ (p .first) (q .first) && rising (q ∷ ps)
 
--- a line is checked for 2, then for 3; where it has neither, what comes after it
+-- spec 4.3: a line is checked for 2, then for 3; where it has neither, what comes after it
 abbrev pub lineCheck : {A : Type 0} → Row → List Pair → A → (Refusal → A) → A
 lineCheck r ps next refuse = cond (all (map (inRow r) ps)) (cond (rising ps) next (refuse Rise)) (refuse Range)
 
@@ -111,7 +111,7 @@ linesOf st =
     ∷ map pointPair (st .watt)
     ∷ []
 
--- the first refusal of lent settings, with its sheet line from 1
+-- spec 4.3: the first refusal of lent settings, with its sheet line from 1
 unfoldable pub settingsCheck : Settings → SettingsCheck
 settingsCheck st = checkFrom 1 rows (linesOf st)
 

@@ -1,4 +1,4 @@
--- Document 01, "The sheet" and "Turned-away input": reading a sheet.
+-- Spec 3.7 to 3.10: reading a sheet.
 -- Assumes nothing.
 use mathlib.Core.Bool.{cond}
 use mathlib.Core.List.{List, [], _∷_, _++_, map}
@@ -51,8 +51,8 @@ settingsOf lines =
 
 -- ---- the reading
 
--- what a reading finds; the settings, all 0 where the sheet is refused; and where the part handed back begins:
--- the refused line (a missing one at the end), or what follows an accepted sheet
+-- what a reading finds; the settings, all 0 where the sheet is refused (spec 3.10); and where the part handed back begins (spec 3.9): at
+-- the refused line, or behind an accepted sheet
 pub record SheetReading : Type 0 where
   pub check : SettingsCheck
   pub settings : Settings
@@ -61,7 +61,7 @@ pub record SheetReading : Type 0 where
 abbrev pub refusedAt : Refusal → ℕ → ℕ → SheetReading
 refusedAt cause line start = record { check = SettingsCheck.Refused cause line; settings = settingsOf []; start = start }
 
--- a line that has its form is checked for 2 and 3, and where it has neither, the lines after it
+-- spec 3.7: a line of another form is refused with 1; one that has its form is checked for 2 and 3, and where it has neither, the lines after it
 abbrev pub onNumbers : ℕ → ℕ → Row → Option (List ℤ) → (List Pair → SheetReading) → SheetReading
 onNumbers line start r none next = refusedAt Form line start
 onNumbers line start r (some ns) next = lineCheck r (pairs ns) (next (pairs ns)) (λ cause. refusedAt cause line start)
@@ -76,11 +76,11 @@ readFrom n start read (r ∷ rs) (form ∷ forms) s =
     (λ ps. readFrom (suc n) (start + length (firstLine s) + 1) (read ++ (ps ∷ [])) rs forms (afterLine s)))
     (refusedAt Form n start)
 
--- "Sheet lines are checked in order, each for 1, 2, 3"; "Bytes past the thirteenth line are not the sheet's."
+-- spec 3.7, 3.8: line by line; what follows the last line is not looked at
 unfoldable pub readSheet : List ℕ → SheetReading
 readSheet s = readFrom 1 0 [] rows sheetForms s
 
--- the part of the caller's bytes that is handed back: the refused line without its line feed, or what follows an accepted sheet
+-- spec 3.9: the part of the caller's bytes that is handed back
 abbrev pub partOf : SettingsCheck → List ℕ → List ℕ
 partOf SettingsCheck.Accepted rest = rest
 partOf (SettingsCheck.Refused cause line) rest = firstLine rest

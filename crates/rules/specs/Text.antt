@@ -1,4 +1,4 @@
--- Document 01, "The sheet" and "Image and program": bytes of text, numbers, and lines.
+-- Spec 3.1, 3.4, 10.4: bytes of text, numbers, and lines.
 -- Assumes nothing.
 use mathlib.Core.Bool.{Bool, false, cond, not, _&&_, _||_}
 use mathlib.Core.List.{List, [], _∷_}
@@ -23,7 +23,7 @@ feed = 10
 abbrev pub minus : ℕ
 minus = 45
 
--- ---- numbers written: with a sign where negative, without padding
+-- ---- numbers written: spec 10.4
 
 -- the last digit of n, after the digits of n / 10; k digits at the most
 unfoldable pub digitsBefore : ℕ → ℕ → List ℕ → List ℕ
@@ -38,7 +38,7 @@ unfoldable pub signedDecimal : ℤ → List ℕ
 signedDecimal (pos n) = decimal n
 signedDecimal (negsuc n) = minus ∷ decimal (suc n)
 
--- ---- numbers read: "1 to 6 digits and no leading zero"
+-- ---- numbers read: spec 3.4
 
 abbrev pub isDigit : ℕ → Bool
 isDigit b = within 48 57 b
@@ -69,7 +69,7 @@ unfoldable pub takeNumber : List ℕ → Option Taken
 takeNumber s =
     cond (wellFormed (leadingDigits s)) (some (record { value = pos (valueAfter 0 (leadingDigits s)); rest = afterDigits s })) none
 
--- "A minus stands only before a nonzero var power."
+-- spec 3.4: a number with a minus before it; `0` has none
 abbrev pub negated : Option Taken → Option Taken
 negated none = none
 negated (some t) = elim (t .value) [ pos zero ↦ none | pos (suc n) ↦ some (record { value = negsuc n; rest = t .rest }) | negsuc n ↦ none ]
@@ -78,7 +78,7 @@ unfoldable pub takeSigned : List ℕ → Option Taken
 takeSigned [] = none
 takeSigned (b ∷ s) = cond (eqb b minus) (negated (takeNumber s)) (takeNumber (b ∷ s))
 
--- ---- lines: a line feed ends a line and nothing else does
+-- ---- lines: spec 3.1, a line feed ends a line and nothing else does
 
 -- the line that a text begins with, without its line feed
 unfoldable pub firstLine : List ℕ → List ℕ

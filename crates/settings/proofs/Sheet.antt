@@ -2,30 +2,21 @@
 -- Assumes nothing.
 use mathlib.Core.Path.{_≡_, sym, _∙_}
 use mathlib.Core.Bool.{Bool, true, false, cond}
-use mathlib.Core.List.{List, [], _∷_, _++_, map}
-use Prim.Native.Nat.{ℕ, zero, suc, _+_, _<_, _≤_}
-use native.Mathlib.Nat.{not-suc-le-zero, le-of-suc-le-suc, add-zero, zero-add, add-suc, suc-add}
+use mathlib.Core.List.{List, [], map}
+use Prim.Native.Nat.{ℕ, _<_, _≤_}
+use native.Mathlib.Nat.{zero-add}
 use native.Mathlib.Omega.{arith}
 use borrow.Author.Tests.{ne-eqb}
 use lib.Dec.{eqb}
 use lib.ListN.{length, getD, drop, length-map, List·getD-map}
+use Rattle.basics.proofs.Tables.{tabulated, tabulated-at}
 use Rattle.rules.specs.Settings.{linesOf, tripLine, pointPair}
 use Rattle.rules.specs.declared.Settings.{Settings}
 use Rattle.settings.specs.Lines.{lineAt, pairsIn}
 
--- n elements of f, counted from i
-abbrev counted : {A : Type 0} → (ℕ → A) → ℕ → ℕ → List A
-counted f i zero = []
-counted f i (suc n) = f i ∷ counted f (suc i) n
-
-counted-at : {A : Type 0} (f : ℕ → A) (i n : ℕ) (rest : List A) (k : ℕ) (d : A) → k < n → getD (counted f i n ++ rest) k d ≡ f (i + k)
-counted-at f i zero rest k d h = absurd (not-suc-le-zero h)
-counted-at f i (suc n) rest zero d h = rw add-zero
-counted-at f i (suc n) rest (suc k) d h = rw (add-suc, ← suc-add) (counted-at f (suc i) n rest k d (le-of-suc-le-suc h))
-
 pub trip-at : (s : Settings) (i : ℕ) → i < 8 → lineAt s i ≡ tripLine s i
 unfolding linesOf
-trip-at s i h = rw zero-add at (counted-at (tripLine s) 0 8 (drop 8 (linesOf s)) i [] h)
+trip-at s i h = rw zero-add at (tabulated-at (tripLine s) 0 8 (drop 8 (linesOf s)) i [] h)
 
 pub single : (i : ℕ) → (i ≡ 11 → ⊥) → (i ≡ 12 → ⊥) → pairsIn i ≡ 1
 single i h g = simp (ne-eqb i 11 h, ne-eqb i 12 g)
@@ -46,10 +37,10 @@ pub unmapped : (X Y : Type 0) (l : List X) (f : X → Y) (n : ℕ) → length (m
 unmapped X Y l f n e = sym (length-map l f) ∙ e
 
 module _ (s : Settings) (four : length (s .var) ≡ 4) (two : length (s .watt) ≡ 2) where
-  lengths : map length (linesOf s) ≡ counted pairsIn 0 13
+  lengths : map length (linesOf s) ≡ tabulated pairsIn 0 13
   unfolding linesOf
   lengths = rw (length-map (s .var) pointPair, length-map (s .watt) pointPair, four, two)
 
   pub pairs-at : (i : ℕ) → i < 13 → length (lineAt s i) ≡ pairsIn i
   pairs-at i h =
-      rw (← List·getD-map length (linesOf s) i [], lengths) (rw zero-add at (counted-at pairsIn 0 13 [] i 0 h))
+      rw (← List·getD-map length (linesOf s) i [], lengths) (rw zero-add at (tabulated-at pairsIn 0 13 [] i 0 h))

@@ -1,4 +1,4 @@
--- Document 01, "The sheet": the lines of settings and their pairs by place, both counted from 0.
+-- Spec 3.2: the lines of settings and their pairs by place, both counted from 0.
 -- Assumes nothing.
 use mathlib.Core.Bool.{cond}
 use mathlib.Core.List.{List, []}

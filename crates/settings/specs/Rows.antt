@@ -1,4 +1,4 @@
--- Document 01, "The sheet": the table of allowed values as the code holds it, and a row by its line, counted from 0.
+-- Spec 3.5: the table of allowed values as the code holds it, and a row by its line, counted from 0.
 -- Assumes nothing.
 use Prim.Native.Nat.{ℕ}
 use lib.ListN.{getD}

@@ -1,4 +1,4 @@
-// Whether settings keep to the ranges and the strict rise of document 01, "The sheet".
+// Whether settings keep to the ranges and the strict rise of spec 3.5 and 3.6.
 ghost use mathlib.Core.Path.{_≡_};
 ghost use mathlib.Core.List.{map};
 ghost use Prim.Native.Nat.{_<_};
@@ -54,7 +54,7 @@ fn rises(s: Settings, line: usize) -> bool
     true
 }
 
-// Document 01, "Turned-away input", 2 and 3 of one line, 2 before 3.
+// Refusals 2 and 3 of one line, 2 before 3 (spec 4.3).
 fn line_check(row: Row, s: Settings, line: usize) -> SettingsCheck
     requires { ⌜ line < 13 ⌝ }
     ensures { λ r. ⌜ r ≡ lineFound (rowOf row) (lineAt s line) line ⌝ }
@@ -81,7 +81,7 @@ pub fn check_line(s: Settings, line: usize) -> SettingsCheck
     line_check(row, s, line)
 }
 
-// Document 01, "Turned-away input", 2 and 3: the first found in sheet order.
+// Refusals 2 and 3: the first found in sheet order (spec 4.3).
 pub fn check(s: Settings) -> SettingsCheck
     ensures { λ r. ⌜ r ≡ settingsCheck s ⌝ }
 {

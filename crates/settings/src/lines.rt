@@ -1,4 +1,4 @@
-// Settings as the thirteen lines of document 01, "The sheet", each of one to four pairs of numbers.
+// Settings as the lines of their sheet (spec 3.2), each of one to four pairs of numbers.
 ghost use mathlib.Core.Path.{_≡_};
 ghost use Prim.Native.Nat.{_<_};
 ghost use lib.IntN.{pos};

@@ -1,4 +1,4 @@
-// Document 01, "The sheet": the table of allowed values, and the one range check that reads it.
+// Spec 3.5: the table of allowed values, and the one range check that reads it.
 ghost use mathlib.Core.Path.{_≡_};
 ghost use mathlib.Core.Bool.{_&&_};
 ghost use mathlib.Core.List.{map};

@@ -8,6 +8,7 @@ use lib.Dec.{leb}
 use lib.IntN.{ℤ, pos, negsuc}
 use lib.ListN.{getD, replicate, List·getD-append, List·getD-map, getD-replicate}
 use Rattle.rules.specs.Forms.{sheetForms, sampleForm}
+use Rattle.basics.proofs.Bools.{both}
 use Rattle.formats.specs.Marks.{fits, suits}
 use Rattle.formats.proofs.Rows.{marksOf, suits-marks}
 use Rattle.text.specs.Forms.{forms, formAt}
@@ -47,20 +48,16 @@ pub record Signed (marks : List ℕ) (ns : List ℤ) : Type 0 where
   pub is : ns ≡ number ∷ rest
   pub suit : suits marks rest ≡ true
 
-and-right : (a b : Bool) → (a && b) ≡ true → b ≡ true
-and-right true b e = e
-and-right false b e = absurd (false≢true e)
-
 pub plain-first : (marks : List ℕ) (ns : List ℤ) → suits (35 ∷ marks) ns ≡ true → Plain marks ns
 unfolding suits
 plain-first marks [] e = absurd (false≢true e)
-plain-first marks (pos n ∷ ns) e = record { number = n; rest = ns; is = refl; suit = and-right (leb n 999999) (suits marks ns) e }
+plain-first marks (pos n ∷ ns) e = record { number = n; rest = ns; is = refl; suit = both (leb n 999999) (suits marks ns) e .1 }
 plain-first marks (negsuc n ∷ ns) e = absurd (false≢true e)
 
 pub signed-first : (marks : List ℕ) (ns : List ℤ) → suits (126 ∷ marks) ns ≡ true → Signed marks ns
 unfolding suits
 signed-first marks [] e = absurd (false≢true e)
-signed-first marks (n ∷ ns) e = record { number = n; rest = ns; is = refl; suit = and-right (fits 126 n) (suits marks ns) e }
+signed-first marks (n ∷ ns) e = record { number = n; rest = ns; is = refl; suit = both (fits 126 n) (suits marks ns) e .1 }
 
 pub none-left : (ns : List ℤ) → suits [] ns ≡ true → ns ≡ []
 unfolding suits

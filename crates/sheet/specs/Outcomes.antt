@@ -1,4 +1,4 @@
--- Document 01, "The sheet": the outcome of reading a sheet, against the rules' reading.
+-- Spec 3.7: the outcome of reading a sheet, against the rules' reading.
 -- Assumes nothing.
 use mathlib.Core.Path.{_≡_}
 use Rattle.rules.specs.Sheets.{SheetReading}

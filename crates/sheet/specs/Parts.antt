@@ -1,4 +1,4 @@
--- Document 01, "The sheet": the part that reading a sheet hands back: the caller's own bytes, not a copy.
+-- Spec 3.9: the part that reading a sheet hands back: the caller's own bytes, not a copy.
 -- Assumes nothing.
 use mathlib.Core.Path.{_≡_}
 use mathlib.Core.List.{List}

@@ -1,4 +1,4 @@
--- Document 01, "The sheet": a sheet line's numbers stored into settings, and what reading one line gives. Lines are counted from 0.
+-- Spec 3.2, 3.7: a sheet line's numbers stored into settings, and what reading one line gives. Lines are counted from 0.
 -- Assumes nothing.
 use mathlib.Core.Bool.{cond}
 use mathlib.Core.List.{List, [], _∷_}

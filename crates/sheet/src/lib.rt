@@ -1,4 +1,4 @@
-// Document 01, "The sheet" and "Turned-away input": reading a sheet from lent bytes.
+// Spec 3.7 to 3.10: reading a sheet from lent bytes.
 ghost use mathlib.Core.Path.{_≡_};
 ghost use Prim.Native.Nat.{_+_, _<_, _≤_};
 ghost use lib.ListN.{length};

@@ -15,7 +15,8 @@ use Rattle.rules.specs.Text.{feed, minus, isDigit, leadingDigits, afterDigits, 
 use Rattle.rules.specs.Forms.{numberMark}
 use Rattle.formats.specs.Marks.{isMark, takeMarked}
 use Rattle.formats.proofs.Numbers.{marked-written}
-use Rattle.formats.proofs.Feeds.{neither, no-feeds, number-plain, plain-line, plain-feed}
+use Rattle.basics.proofs.Bools.{neither}
+use Rattle.formats.proofs.Feeds.{no-feeds, number-plain, plain-line, plain-feed}
 use Rattle.text.specs.Forms.{Formed, after, takenThen, byteThen, takeForm}
 
 -- ---- numbers of the first line

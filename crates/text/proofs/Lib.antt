@@ -9,4 +9,4 @@ pub mod Whole
 pub mod Ended
 pub mod Samples
 pub mod Signs
-pub mod Straight
+pub mod FastSamples

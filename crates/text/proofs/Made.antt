@@ -15,7 +15,7 @@ use Rattle.rules.specs.Tests.{all, within}
 use Rattle.rules.specs.Text.{hasFeed}
 use Rattle.rules.specs.Forms.{sheetForms, sampleForm, numbersOf}
 use Rattle.formats.specs.Marks.{marks}
-use Rattle.formats.proofs.Digits.{both}
+use Rattle.basics.proofs.Bools.{both}
 use Rattle.formats.proofs.Forms.{separated, line-written, written-length}
 use Rattle.text.specs.Forms.{forms, formAt}
 

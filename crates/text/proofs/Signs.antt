@@ -1,6 +1,6 @@
 -- The opposite and the magnitude of a number of 32 bits.
 -- Assumes nothing.
-use mathlib.Core.Path.{_≡_, refl}
+use mathlib.Core.Path.{_≡_}
 use mathlib.Core.Bool.{true, false, true≢false}
 use Prim.Native.Nat.{zero, suc}
 use native.Mathlib.Omega.{arith}
@@ -11,18 +11,10 @@ use lib.Signed.{ltZ, nonNeg, natAbs-le}
 use mir.Syntax.{w32, w64}
 use mir.Val.{Fits, SFits}
 
-pub widened : {z : ℤ} → SFits w32 z → SFits w64 z
-widened f = record { sfits = omega arith }
-
 pub opposite-fits : (z : ℤ) → SFits w32 z → SFits w64 (negℤ z)
 opposite-fits (pos zero) f = record { sfits = omega arith }
 opposite-fits (pos (suc n)) f = record { sfits = omega (arith, f .sfits) }
 opposite-fits (negsuc n) f = record { sfits = omega (arith, f .sfits) }
-
-pub opposite-size : (z : ℤ) → natAbs (negℤ z) ≡ natAbs z
-opposite-size (pos zero) = refl
-opposite-size (pos (suc n)) = refl
-opposite-size (negsuc n) = refl
 
 pub opposite-sign : (z : ℤ) → ltZ z (pos 0) ≡ true → T (nonNeg (negℤ z))
 opposite-sign (pos n) e = absurd (omega (arith, ltb-true n 0 e))

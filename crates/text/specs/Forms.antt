@@ -1,4 +1,4 @@
--- Document 01, "The sheet" and "Image and program": the fourteen forms by number, and the numbers that a text begins with by a form.
+-- Spec 3.2, 10.2: the fourteen forms by number, and the numbers that a text begins with by a form.
 -- Assumes nothing.
 use mathlib.Core.Bool.{cond}
 use mathlib.Core.List.{List, [], _∷_, _++_}

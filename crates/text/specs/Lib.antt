@@ -1,4 +1,4 @@
 pub mod Places
 pub mod Forms
 pub mod Lines
-pub mod Near
+pub mod Fast

@@ -1,4 +1,4 @@
--- Document 01, "The sheet" and "Image and program": the numbers of a whole line, and of a sample line that stands at a place of a text.
+-- Spec 3.2, 10.2: the numbers of a whole line, and of a sample line that stands at a place of a text.
 -- Assumes nothing.
 use mathlib.Core.Bool.{true, false, cond}
 use mathlib.Core.List.{List, map}

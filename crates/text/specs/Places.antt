@@ -1,4 +1,4 @@
--- Document 01, "The sheet" and "Image and program": what is read at a place of a text, against the rules' reading of the text from that place on.
+-- Spec 3.2, 3.4: what is read at a place of a text, against the rules' reading of the text from that place on.
 -- Assumes nothing.
 use mathlib.Core.Path.{_≡_}
 use mathlib.Core.Bool.{true, false, cond}

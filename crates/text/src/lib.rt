@@ -1,4 +1,4 @@
-// Document 01, "The sheet" and "Image and program": lines, their forms, and the numbers in them.
+// Spec 3.1 to 3.4, 10.2: lines, their forms, and the numbers in them.
 ghost use mathlib.Core.Path.{_≡_};
 ghost use mathlib.Core.List.{map};
 ghost use Prim.Native.Nat.{_+_, _≤_, _<_};
@@ -11,14 +11,14 @@ ghost use Rattle.text.specs.Forms.{formAt, takeForm};
 ghost use Rattle.text.specs.Places.{MatchAt};
 ghost use Rattle.text.specs.Lines.{numbersRead, sampleAt};
 
+mod fast;
 mod form;
-mod near;
 mod number;
 mod table;
 
+use fast::fast_sample_at;
 use form::Match;
 use form::match_at;
-use near::near_at;
 use table::form_bytes;
 use table::form_starts;
 pub use table::sample_form;
@@ -103,14 +103,14 @@ pub struct SampleAt {
     pub slice: [u32; 7],
 }
 
-// The sample line at a place of a text: read straight through where there is room, and by its form where that finds nothing. The form is
+// The sample line at a place of a text: by the fast reader where there is room, and by its form where that finds nothing. The form is
 // lent, so that it is made once for many lines.
 pub fn sample_at(form: &[u8], s: &[u8], at: usize) -> SampleAt
     requires { ⌜ (now form ≡ sampleForm) × (at ≤ length (now s)) ⌝ }
     ensures { λ r. ⌜ r ≡ sampleAt (now (s .entry)) at ⌝ }
 {
     if 64 <= s.len() - at {
-        let x = near_at(s, at);
+        let x = fast_sample_at(s, at);
         if x.found {
             return x;
         }

@@ -1,4 +1,4 @@
-// Document 01, "The sheet": "Numbers have 1 to 6 digits and no leading zero. A minus stands only before a nonzero var power."
+// Spec 3.4: numbers as they are read from a text.
 ghost use mathlib.Core.Path.{_≡_};
 ghost use Prim.Native.Nat.{_≤_, _<_, min};
 ghost use lib.IntN.{pos};

@@ -1,4 +1,4 @@
-// Document 01, "The sheet" and "Image and program": the forms of the sheet's thirteen lines and of the sample line. `#` stands
+// Spec 3.2, 10.2: the forms of the sheet's thirteen lines and of the sample line. `#` stands
 // for a number, `~` for one that may have a minus, any other byte for itself.
 ghost use mathlib.Core.Path.{_≡_};
 ghost use Rattle.rules.specs.Forms.{sampleForm};

@@ -1,4 +1,4 @@
--- `text::sample_at` meets its contract: what is read straight through is the sample line; where nothing is, a match that ends at a line
+-- `text::sample_at` meets its contract: what the fast reader finds is the sample line; where nothing is, a match that ends at a line
 -- feed is an ended sample line, and no other is.
 -- Assumes nothing.
 use mathlib.Core.Path.{refl}
@@ -14,11 +14,11 @@ use Rattle.text.proofs.sample_at.Tie as tie
 sub-if1 : tie.Need-sub-if1
 sub-if1 c = search needs
 
-near-at-requires : tie.Need-near-at-requires
-near-at-requires c κs = search needs
+fast-sample-at-requires : tie.Need-fast-sample-at-requires
+fast-sample-at-requires c κs = search needs
 
 returns : tie.Need-returns
-returns c = c .before .near-at .ensures (c .if2 .taken)
+returns c = c .before .fast-sample-at .ensures (c .if2 .taken)
 
 match-at-requires : tie.Need-match-at-requires
 unfolding forms sheetForms
@@ -66,7 +66,7 @@ sample-at-spec =
     tie.close
     (tie.spec
     sub-if1
-    near-at-requires
+    fast-sample-at-requires
     returns
     match-at-requires
     shared-slice-read-if5

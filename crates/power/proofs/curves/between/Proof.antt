@@ -1,4 +1,4 @@
--- `power::curves::between` meets its contract: each step fits, and is rule 7's number (`Steps.antt`).
+-- `power::curves::between` meets its contract: each step fits, and is the number of spec 7.2 (`Steps.antt`).
 -- Assumes nothing.
 use native.Mathlib.Omega.{arith}
 use borrow.Author.Needs.{needs}

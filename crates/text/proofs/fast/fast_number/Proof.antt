@@ -1,17 +1,17 @@
--- `text::near::number_near` meets its contract: digits that begin with a zero are a number where they are this one.
+-- `text::fast::fast_number` meets its contract: digits that begin with a zero are a number where they are this one.
 -- Assumes nothing.
 use mathlib.Core.Path.{sym, _∙_}
 use mathlib.Core.Bool.{false≢true}
 use Prim.Native.Nat.{_+_}
 use native.Mathlib.Omega.{arith}
 use borrow.Author.Tests.{eqb-true, not-false}
-use Rattle.text.proofs.Straight.{number-taken}
+use Rattle.text.proofs.FastSamples.{number-taken}
 use borrow.Author.Needs.{needs}
-use Rattle.text.proofs.near.number_near.Statement.{statement}
-use Rattle.text.proofs.near.number_near.Tie as tie
+use Rattle.text.proofs.fast.fast_number.Statement.{statement}
+use Rattle.text.proofs.fast.fast_number.Tie as tie
 
-digits-near-requires : tie.Need-digits-near-requires
-digits-near-requires c κs = search needs
+fast-digits-requires : tie.Need-fast-digits-requires
+fast-digits-requires c κs = search needs
 
 passed-over-requires : tie.Need-passed-over-requires
 passed-over-requires c κs = search needs
@@ -27,7 +27,7 @@ add-t8 c = search needs
 
 returns-2 : tie.Need-returns-2
 returns-2 c found =
-    let d = c .before .before .before .before .digits-near in
+    let d = c .before .before .before .before .fast-digits in
     let a = c .before .before .before .before .before .before .args in
     let n = d .ensures (not-false _ (c .before .before .if1 .left)) in
     let one = eqb-true (d .result .next) (a .at + 1) found in
@@ -35,16 +35,16 @@ returns-2 c found =
 
 returns-3 : tie.Need-returns-3
 returns-3 c found =
-    let d = c .before .before .before .before .digits-near in
+    let d = c .before .before .before .before .fast-digits in
     let a = c .before .before .before .before .before .before .args in
     let n = d .ensures (not-false _ (c .before .before .if1 .left)) in
     number-taken (a .s .now) (a .at) (d .result) n (λ z. absurd (c .if2 .left z)) _
 
-pub number-near-spec : {M : Type 1} → statement M
-number-near-spec =
+pub fast-number-spec : {M : Type 1} → statement M
+fast-number-spec =
     tie.close
     (tie.spec
-    digits-near-requires
+    fast-digits-requires
     passed-over-requires
     returns
     shared-slice-read-if2

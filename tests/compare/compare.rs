@@ -3,20 +3,20 @@
 //!     rustc -O --edition 2021 compare.rs
 //!     compare PROGRAM FOLDER [KIND]
 //!
-//! The comparison program, `board.rs`, is linked in; PROGRAM is started anew for every input. The input of the first difference
+//! The comparison program, `comparison/board.rs`, is linked in; PROGRAM is started anew for every input. The input of the first difference
 //! is kept in FOLDER with what each wrote. Seeds are fixed: every run makes the same inputs. With KIND, only inputs of that kind.
 //! The last line is 'N passed, M failed': an input on which both agree is a pass, and so is each thing reached often enough.
 
 #[allow(dead_code)]
-#[path = "board.rs"]
+#[path = "../../comparison/board.rs"]
 mod board;
-#[path = "compare/damage.rs"]
+#[path = "damage.rs"]
 mod damage;
-#[path = "compare/draw.rs"]
+#[path = "draw.rs"]
 mod draw;
-#[path = "compare/feed.rs"]
+#[path = "feed.rs"]
 mod feed;
-#[path = "compare/runs.rs"]
+#[path = "runs.rs"]
 mod runs;
 
 use feed::Feed;

@@ -66,7 +66,7 @@ impl Draws {
 // Sensing, to find the codes around a level
 // ---------------------------------------------------------------------------
 
-/// The lowest code whose voltage, the largest whole number whose square is at most code × 100,000, is at least `level`; or 4095.
+/// The lowest code whose voltage (spec 2.2) is at least `level`; or 4095.
 pub fn code_from(level: u32) -> u32 {
     let square = u64::from(level) * u64::from(level);
     square.div_ceil(100_000).min(4095) as u32

@@ -1,4 +1,4 @@
-// Sample lines read straight through, for speed: most of them stand inside a block, with room after them for the longest one, and then
+// The fast reader of sample lines: most of them stand inside a block, with room after them for the longest one, and then
 // no byte needs a test of the text's end. What is passed over here, the matcher reads; what is found here is what the matcher finds.
 ghost use mathlib.Core.Path.{_≡_};
 ghost use mathlib.Core.Bool.{true, false};
@@ -6,20 +6,20 @@ ghost use Prim.Native.Nat.{_+_, _≤_};
 ghost use lib.ListN.{length};
 ghost use Rattle.formats.specs.Marks.{isMark};
 ghost use Rattle.text.specs.Lines.{sampleAt};
-ghost use Rattle.text.specs.Near.{NearDigits, NearNumber, NearField, HeadTaken, closingByte};
+ghost use Rattle.text.specs.Fast.{FastDigits, FastNumber, FastField, HeadTaken, closingByte};
 use crate::SampleAt;
 
 // What is found: the place after it, and its value.
-pub struct Near {
+pub struct Found {
     pub found: bool,
     pub next: usize,
     pub value: u32,
 }
 
-fn passed_over() -> Near
+fn passed_over() -> Found
     ensures { λ r. ⌜ r .found ≡ false ⌝ }
 {
-    Near {
+    Found {
         found: false,
         next: 0,
         value: 0,
@@ -27,16 +27,16 @@ fn passed_over() -> Near
 }
 
 // One to six digits.
-fn digits_near(s: &[u8], at: usize) -> Near
+fn fast_digits(s: &[u8], at: usize) -> Found
     requires { ⌜ at + 7 ≤ length (now s) ⌝ }
-    ensures { λ r. ⌜ (r .found ≡ true → NearDigits (now (s .entry)) at r) ⌝ }
+    ensures { λ r. ⌜ (r .found ≡ true → FastDigits (now (s .entry)) at r) ⌝ }
 {
     let mut value: u32 = 0;
     let mut i = 0;
     while i < 7 {
         let d = (s[at + i] ^ b'0') as u32;
         if 9 < d {
-            return Near {
+            return Found {
                 found: 0 < i,
                 next: at + i,
                 value,
@@ -49,17 +49,17 @@ fn digits_near(s: &[u8], at: usize) -> Near
 }
 
 // A number without a leading zero.
-fn number_near(s: &[u8], at: usize) -> Near
+fn fast_number(s: &[u8], at: usize) -> Found
     requires { ⌜ at + 7 ≤ length (now s) ⌝ }
-    ensures { λ r. ⌜ (r .found ≡ true → NearNumber (now (s .entry)) at r) ⌝ }
+    ensures { λ r. ⌜ (r .found ≡ true → FastNumber (now (s .entry)) at r) ⌝ }
 {
-    let d = digits_near(s, at);
+    let d = fast_digits(s, at);
     let next = d.next;
     if !d.found {
         return passed_over();
     }
     if s[at] == b'0' {
-        return Near {
+        return Found {
             found: next == at + 1,
             next,
             value: d.value,
@@ -69,11 +69,11 @@ fn number_near(s: &[u8], at: usize) -> Near
 }
 
 // A number and the byte that closes it.
-fn field_near(s: &[u8], at: usize, close: u8) -> Near
+fn fast_field(s: &[u8], at: usize, close: u8) -> Found
     requires { ⌜ (at + 7 ≤ length (now s)) × (isMark close ≡ false) ⌝ }
-    ensures { λ r. ⌜ (r .found ≡ true → NearField (now (s .entry)) at close r) ⌝ }
+    ensures { λ r. ⌜ (r .found ≡ true → FastField (now (s .entry)) at close r) ⌝ }
 {
-    let x = number_near(s, at);
+    let x = fast_number(s, at);
     let next = x.next;
     if !x.found {
         return passed_over();
@@ -81,7 +81,7 @@ fn field_near(s: &[u8], at: usize, close: u8) -> Near
     if s[next] != close {
         return passed_over();
     }
-    Near {
+    Found {
         found: true,
         next: next + 1,
         value: x.value,
@@ -133,7 +133,7 @@ fn no_sample(at: usize) -> SampleAt
 }
 
 // The sample line at a place, with at least 64 bytes from there on: the longest one has fewer.
-pub fn near_at(s: &[u8], start: usize) -> SampleAt
+pub fn fast_sample_at(s: &[u8], start: usize) -> SampleAt
     requires { ⌜ start + 64 ≤ length (now s) ⌝ }
     ensures { λ r. ⌜ (r .found ≡ true → r ≡ sampleAt (now (s .entry)) start) ⌝ }
 {
@@ -144,7 +144,7 @@ pub fn near_at(s: &[u8], start: usize) -> SampleAt
     let mut k = 0;
     let mut at = start + 5;
     while k < 7 {
-        let x = field_near(s, at, closing(k));
+        let x = fast_field(s, at, closing(k));
         if !x.found {
             return no_sample(start);
         }

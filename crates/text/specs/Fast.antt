@@ -1,4 +1,4 @@
--- Document 01, "Image and program": what is read straight through at a place of a text, against the rules' reading of the text from that place on.
+-- Spec 10.2: what the fast reader finds at a place of a text, against the rules' reading of the text from that place on.
 -- Assumes nothing.
 use mathlib.Core.Path.{_≡_}
 use mathlib.Core.Bool.{cond, _||_}
@@ -12,21 +12,21 @@ use Rattle.rules.specs.Text.{takeNumber}
 use Rattle.rules.specs.Forms.{numberMark, sampleForm}
 use Rattle.text.specs.Forms.{after, takeForm}
 use Rattle.text.specs.Places.{DigitsAt}
-use Rattle.text.specs.declared.near.Near.{Near}
+use Rattle.text.specs.declared.fast.Found.{Found}
 
 -- one to six digits
-pub record NearDigits (s : List ℕ) (at : ℕ) (r : Near) : Type 0 where
+pub record FastDigits (s : List ℕ) (at : ℕ) (r : Found) : Type 0 where
   pub any : at < r .next
   pub few : r .next ≤ at + 6
   pub digits : DigitsAt s at (record { value = r .value; next = r .next })
 
 -- the number that the rules take
-pub record NearNumber (s : List ℕ) (at : ℕ) (r : Near) : Type 0 where
+pub record FastNumber (s : List ℕ) (at : ℕ) (r : Found) : Type 0 where
   pub few : r .next ≤ at + 6
   pub same : takeNumber (drop at s) ≡ some (record { value = pos (r .value); rest = drop (r .next) s })
 
 -- a number and the byte that closes it, with any form after them
-pub record NearField (s : List ℕ) (at close : ℕ) (r : Near) : Type 0 where
+pub record FastField (s : List ℕ) (at close : ℕ) (r : Found) : Type 0 where
   pub few : r .next ≤ at + 7
   pub same : (form : List ℕ) → takeForm (numberMark ∷ close ∷ form) (drop at s) ≡ after (pos (r .value) ∷ []) (takeForm form (drop (r .next) s))
 

@@ -1,4 +1,4 @@
--- `text::near::digits_near` meets its contract: the loop goes along a run of digits and stops before its seventh, or finds nothing.
+-- `text::fast::fast_digits` meets its contract: the loop goes along a run of digits and stops before its seventh, or finds nothing.
 -- Assumes nothing.
 use mathlib.Core.Path.{sym, _∙_}
 use mathlib.Core.Bool.{false≢true}
@@ -9,10 +9,10 @@ use borrow.Author.Tests.{ltb-true}
 use lib.Bits.{xor-add-and}
 use lib.ListN.{getD}
 use Rattle.text.proofs.Runs.{Run, run-start, run-more, run-other, run-below}
-use Rattle.text.proofs.Straight.{xor-digit, xor-value, xor-other}
+use Rattle.text.proofs.FastSamples.{xor-digit, xor-value, xor-other}
 use borrow.Author.Needs.{needs}
-use Rattle.text.proofs.near.digits_near.Statement.{statement}
-use Rattle.text.proofs.near.digits_near.Tie as tie
+use Rattle.text.proofs.fast.fast_digits.Statement.{statement}
+use Rattle.text.proofs.fast.fast_digits.Tie as tie
 
 abbrev Inv-loop : tie.InvT-loop
 Inv-loop s at value₀ i₀ value i = Run s at value (at + i) × (i ≤ 7)
@@ -83,8 +83,8 @@ passed-over-requires c κs = search needs
 returns-2 : tie.Need-returns-2 Inv-loop μ-loop
 returns-2 c found = absurd (false≢true (sym (c .passed-over .ensures) ∙ found))
 
-pub digits-near-spec : {M : Type 1} → statement M
-digits-near-spec =
+pub fast-digits-spec : {M : Type 1} → statement M
+fast-digits-spec =
     tie.close
     (tie.spec
     Inv-loop

@@ -5,7 +5,7 @@ use crate::feed::Feed;
 use crate::runs::drawn_sample;
 use crate::{Input, Sink};
 
-/// The samples of document 01's listing.
+/// The samples of spec 10.11.
 const LISTING: &str = "\
 (at (1000 1000 1000) 60000 1 10000 10000)
 (at (1000 1000 1000) 60000 1 10000 10000)

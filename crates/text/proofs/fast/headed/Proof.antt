@@ -1,11 +1,11 @@
--- `text::near::headed` meets its contract: byte by byte.
+-- `text::fast::headed` meets its contract: byte by byte.
 -- Assumes nothing.
 use mathlib.Core.Bool.{false≢true}
 use borrow.Author.Tests.{eqb-true}
-use Rattle.text.proofs.Straight.{head-taken}
+use Rattle.text.proofs.FastSamples.{head-taken}
 use borrow.Author.Needs.{needs}
-use Rattle.text.proofs.near.headed.Statement.{statement}
-use Rattle.text.proofs.near.headed.Tie as tie
+use Rattle.text.proofs.fast.headed.Statement.{statement}
+use Rattle.text.proofs.fast.headed.Tie as tie
 
 shared-slice-read-if1 : tie.Need-shared-slice-read-if1
 shared-slice-read-if1 c = search needs

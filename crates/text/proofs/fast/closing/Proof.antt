@@ -1,8 +1,8 @@
--- `text::near::closing` meets its contract: the same tests.
+-- `text::fast::closing` meets its contract: the same tests.
 -- Assumes nothing.
 use borrow.Author.Tests.{eq-eqb, ne-eqb}
-use Rattle.text.proofs.near.closing.Statement.{statement}
-use Rattle.text.proofs.near.closing.Tie as tie
+use Rattle.text.proofs.fast.closing.Statement.{statement}
+use Rattle.text.proofs.fast.closing.Tie as tie
 
 returns : tie.Need-returns
 returns c = rw (eq-eqb _ 2 (c .if1 .taken))

@@ -1,16 +1,16 @@
--- `text::near::field_near` meets its contract: the byte after the number is the one that closes it.
+-- `text::fast::fast_field` meets its contract: the byte after the number is the one that closes it.
 -- Assumes nothing.
 use mathlib.Core.Path.{sym, _∙_}
 use mathlib.Core.Bool.{false≢true}
 use native.Mathlib.Omega.{arith}
 use borrow.Author.Tests.{not-false}
-use Rattle.text.proofs.Straight.{field-taken}
+use Rattle.text.proofs.FastSamples.{field-taken}
 use borrow.Author.Needs.{needs}
-use Rattle.text.proofs.near.field_near.Statement.{statement}
-use Rattle.text.proofs.near.field_near.Tie as tie
+use Rattle.text.proofs.fast.fast_field.Statement.{statement}
+use Rattle.text.proofs.fast.fast_field.Tie as tie
 
-number-near-requires : tie.Need-number-near-requires
-number-near-requires c κs = search needs
+fast-number-requires : tie.Need-fast-number-requires
+fast-number-requires c κs = search needs
 
 passed-over-requires : tie.Need-passed-over-requires
 passed-over-requires c κs = search needs
@@ -20,7 +20,7 @@ returns c found = absurd (false≢true (sym (c .passed-over .ensures) ∙ found)
 
 shared-slice-read-if2 : tie.Need-shared-slice-read-if2
 shared-slice-read-if2 c =
-    let n = c .before .before .before .number-near .ensures (not-false _ (c .before .if1 .left)) in
+    let n = c .before .before .before .fast-number .ensures (not-false _ (c .before .if1 .left)) in
     omega (arith, n .few, c .before .before .before .before .before .pre .0)
 
 passed-over-requires-2 : tie.Need-passed-over-requires-2
@@ -31,21 +31,21 @@ returns-2 c found = absurd (false≢true (sym (c .passed-over2 .ensures) ∙ fou
 
 add-t9 : tie.Need-add-t9
 add-t9 c =
-    let n = c .before .before .before .before .number-near .ensures (not-false _ (c .before .before .if1 .left)) in
+    let n = c .before .before .before .before .fast-number .ensures (not-false _ (c .before .before .if1 .left)) in
     omega (arith, n .few, c .before .before .before .before .before .before .pre .0)
 
 returns-3 : tie.Need-returns-3
 returns-3 c found =
-    let x = c .before .before .before .before .number-near in
+    let x = c .before .before .before .before .fast-number in
     let p = c .before .before .before .before .before .before in
     let n = x .ensures (not-false _ (c .before .before .if1 .left)) in
     field-taken (p .args .s .now) (p .args .at) (p .args .close) (x .result) n (p .pre .1) (omega (arith, n .few, p .pre .0)) (c .if2 .left)
 
-pub field-near-spec : {M : Type 1} → statement M
-field-near-spec =
+pub fast-field-spec : {M : Type 1} → statement M
+fast-field-spec =
     tie.close
     (tie.spec
-    number-near-requires
+    fast-number-requires
     passed-over-requires
     returns
     shared-slice-read-if2

@@ -1,4 +1,4 @@
--- Reading straight through: a digit by exclusive or, a number with the byte that closes it, and the sample form number by number.
+-- The fast reader: a digit by exclusive or, a number with the byte that closes it, and the sample form number by number.
 -- Assumes nothing.
 use mathlib.Core.Path.{_≡_, refl, sym, ap, _∙_}
 use mathlib.Core.Bool.{Bool, true, false, cond, _||_}
@@ -21,9 +21,9 @@ use Rattle.formats.proofs.Digits.{IsDigit, digit-is}
 use Rattle.text.specs.Forms.{Formed, after, takeForm}
 use Rattle.text.specs.Places.{padded, Matched}
 use Rattle.text.specs.Lines.{sampleAt}
-use Rattle.text.specs.Near.{NearDigits, NearNumber, NearField, HeadTaken, closingByte}
+use Rattle.text.specs.Fast.{FastDigits, FastNumber, FastField, HeadTaken, closingByte}
 use Rattle.text.specs.declared.form.Match.{Match}
-use Rattle.text.specs.declared.near.Near.{Near}
+use Rattle.text.specs.declared.fast.Found.{Found}
 use Rattle.text.proofs.Taking.{well-taken}
 use Rattle.text.proofs.Matching.{after-none-before, after-after}
 use Rattle.text.proofs.Samples.{at-feed, sample-found}
@@ -66,8 +66,8 @@ unfolding takeForm
 byte-taken mark form s at next m h e n = rw (m, drop-cons s at 0 h, eq-eqb _ mark e, n, add-one at)
 
 -- a run of digits without a leading zero
-pub number-taken : (s : List ℕ) (at : ℕ) (d : Near) → NearDigits s at d → (getD s at 0 ≡ 48 → d .next ≤ at + 1) → (found : Bool)
-    → NearNumber s at (record { found = found; next = d .next; value = d .value })
+pub number-taken : (s : List ℕ) (at : ℕ) (d : Found) → FastDigits s at d → (getD s at 0 ≡ 48 → d .next ≤ at + 1) → (found : Bool)
+    → FastNumber s at (record { found = found; next = d .next; value = d .value })
 number-taken s at d n lead found =
     record {
       few = n .few;
@@ -75,8 +75,8 @@ number-taken s at d n lead found =
     }
 
 -- a number and the byte that closes it
-pub field-taken : (s : List ℕ) (at close : ℕ) (x : Near) → NearNumber s at x → isMark close ≡ false → x .next < length s → getD s (x .next) 0 ≡ close
-    → NearField s at close (record { found = true; next = x .next + 1; value = x .value })
+pub field-taken : (s : List ℕ) (at close : ℕ) (x : Found) → FastNumber s at x → isMark close ≡ false → x .next < length s → getD s (x .next) 0 ≡ close
+    → FastField s at close (record { found = true; next = x .next + 1; value = x .value })
 unfolding takeForm
 field-taken s at close x n m h e =
     record {
@@ -125,23 +125,23 @@ closing-plain k = by-test (eqb k 2 || eqb k 6)
     by-test false = refl
 
 -- k numbers are stored, and the form from number k on stands against the text from `at` on
-pub record Straight (s : List ℕ) (start : ℕ) (slice : List ℕ) (k at : ℕ) : Type 0 where
+pub record SoFar (s : List ℕ) (start : ℕ) (slice : List ℕ) (k at : ℕ) : Type 0 where
   pub left : takeForm sampleForm (drop start s) ≡ after (map pos (take k slice)) (takeForm (from k) (drop at s))
   pub size : length slice ≡ 7
   pub count : k ≤ 7
-  pub near : at ≤ start + 5 + 8 * k
+  pub bound : at ≤ start + 5 + 8 * k
 
-pub straight-start : (s : List ℕ) (start : ℕ) → HeadTaken s start → Straight s start (replicate 7 0) 0 (start + 5)
-straight-start s start e =
+pub fast-start : (s : List ℕ) (start : ℕ) → HeadTaken s start → SoFar s start (replicate 7 0) 0 (start + 5)
+fast-start s start e =
     record {
       left = e ∙ sym (after-none-before (takeForm (drop 5 sampleForm) (drop (start + 5) s)));
       size = refl;
       count = omega arith;
-      near = omega arith;
+      bound = omega arith;
     }
 
-module _ (s : List ℕ) (start : ℕ) (slice : List ℕ) (k at : ℕ) (g : Straight s start slice k at) (h : k < 7)
-    (x : Near) (e : NearField s at (closingByte k) x) where
+module _ (s : List ℕ) (start : ℕ) (slice : List ℕ) (k at : ℕ) (g : SoFar s start slice k at) (h : k < 7)
+    (x : Found) (e : FastField s at (closingByte k) x) where
   stored : takeForm sampleForm (drop start s) ≡ after (map pos (take (k + 1) (set slice k (x .value)))) (takeForm (spaced k (from (k + 1))) (drop (x .next) s))
   stored =
       let longer : take (k + 1) (set slice k (x .value)) ≡ take k slice ++ (x .value ∷ []) = rw (add-one) (take-suc-set slice k (x .value) (omega (arith, g .size))) in
@@ -150,22 +150,22 @@ module _ (s : List ℕ) (start : ℕ) (slice : List ℕ) (k at : ℕ) (g : Strai
       (after-after (map pos (take k slice)) (pos (x .value) ∷ []) (takeForm (spaced k (from (k + 1))) (drop (x .next) s)))
 
   next-from : (next : ℕ) → next ≤ at + 8 → takeForm (spaced k (from (k + 1))) (drop (x .next) s) ≡ takeForm (from (k + 1)) (drop next s)
-      → Straight s start (set slice k (x .value)) (k + 1) next
+      → SoFar s start (set slice k (x .value)) (k + 1) next
   next-from next l q =
       record {
         left = stored ∙ ap (after (map pos (take (k + 1) (set slice k (x .value))))) q;
         size = length-set slice k (x .value) ∙ g .size;
         count = omega arith;
-        near = omega (arith, g .near);
+        bound = omega (arith, g .bound);
       }
 
   -- the next number follows at once, or after a space
-  pub next-number : (k ≡ 2 → ⊥) → Straight s start (set slice k (x .value)) (k + 1) (x .next)
+  pub next-number : (k ≡ 2 → ⊥) → SoFar s start (set slice k (x .value)) (k + 1) (x .next)
   next-number other = next-from (x .next) (omega (arith, e .few)) (rw (ne-eqb k 2 other))
 
-  pub next-spaced : k ≡ 2 → start + 64 ≤ length s → getD s (x .next) 0 ≡ 32 → Straight s start (set slice k (x .value)) (k + 1) (x .next + 1)
+  pub next-spaced : k ≡ 2 → start + 64 ≤ length s → getD s (x .next) 0 ≡ 32 → SoFar s start (set slice k (x .value)) (k + 1) (x .next + 1)
   next-spaced third room b =
-      let inside : x .next < length s = omega (arith, g .near, e .few) in
+      let inside : x .next < length s = omega (arith, g .bound, e .few) in
       next-from (x .next + 1) (omega (arith, e .few)) (rw (eq-eqb k 2 third) (byte-taken 32 (from (k + 1)) s (x .next) (x .next + 1) refl inside b refl))
 
 -- ---- where the sample form ends
@@ -174,7 +174,7 @@ from-end : from 7 ≡ []
 unfolding sampleForm
 from-end = refl
 
-module _ (s : List ℕ) (start : ℕ) (slice : List ℕ) (k at : ℕ) (g : Straight s start slice k at) (h : 7 ≤ k) where
+module _ (s : List ℕ) (start : ℕ) (slice : List ℕ) (k at : ℕ) (g : SoFar s start slice k at) (h : 7 ≤ k) where
   abbrev numbers : List ℤ
   numbers = map pos slice
 
@@ -185,11 +185,11 @@ module _ (s : List ℕ) (start : ℕ) (slice : List ℕ) (k at : ℕ) (g : Strai
       g .left ∙ rw (seven, from-end, take-all 7 slice (omega (arith, g .size)), append-nil)
 
   -- a line feed there ends the line
-  pub straight-ends : start + 64 ≤ length s → getD s at 0 ≡ feed → record { found = true; next = at + 1; slice = slice } ≡ sampleAt s start
-  straight-ends room b =
+  pub fast-ends : start + 64 ≤ length s → getD s at 0 ≡ feed → record { found = true; next = at + 1; slice = slice } ≡ sampleAt s start
+  fast-ends room b =
       let f : Formed = record { numbers = numbers; rest = drop at s } in
       let m : Match = record { found = true; next = at; n = padded numbers } in
-      let inside : at < length s = omega (arith, g .near, g .count) in
+      let inside : at < length s = omega (arith, g .bound, g .count) in
       let matched : Matched f s m = record { found = refl; numbers = refl; rest = refl; inside = omega arith } in
       let seven : take 7 (padded numbers) ≡ numbers = take-at numbers (replicate (8 - length numbers) (pos 0)) 7 (length-map slice pos ∙ g .size) in
       sample-found s start m (omega arith) slice (at-feed s start m (omega arith) (some f) all-taken matched refl inside b) (rw (seven, map-map natAbs pos slice, map-id slice))

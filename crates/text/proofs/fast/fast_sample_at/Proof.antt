@@ -1,4 +1,4 @@
--- `text::near::near_at` meets its contract: each turn takes one number of the sample form with the byte that closes it.
+-- `text::fast::fast_sample_at` meets its contract: each turn takes one number of the sample form with the byte that closes it.
 -- Assumes nothing.
 use mathlib.Core.Path.{sym, _∙_}
 use mathlib.Core.Bool.{false≢true}
@@ -6,13 +6,13 @@ use mathlib.Core.Logic.{⊎-elim}
 use Prim.Native.Nat.{_-_}
 use native.Mathlib.Omega.{arith}
 use borrow.Author.Tests.{not-false}
-use Rattle.text.proofs.Straight.{Straight, straight-start, closing-plain, next-number, next-spaced, straight-ends}
+use Rattle.text.proofs.FastSamples.{SoFar, fast-start, closing-plain, next-number, next-spaced, fast-ends}
 use borrow.Author.Needs.{needs}
-use Rattle.text.proofs.near.near_at.Statement.{statement}
-use Rattle.text.proofs.near.near_at.Tie as tie
+use Rattle.text.proofs.fast.fast_sample_at.Statement.{statement}
+use Rattle.text.proofs.fast.fast_sample_at.Tie as tie
 
 abbrev Inv-loop : tie.InvT-loop
-Inv-loop s start slice₀ k₀ at₀ slice k at = Straight s start slice k at
+Inv-loop s start slice₀ k₀ at₀ slice k at = SoFar s start slice k at
 
 abbrev μ-loop : tie.MeasureT-loop
 μ-loop s start slice₀ k₀ at₀ slice k at = 7 - k
@@ -32,15 +32,15 @@ add-at c = search needs
 loop-holds : tie.Need-loop-holds Inv-loop μ-loop
 loop-holds c =
     let a = c .before .before .before .args in
-    straight-start (a .s .now) (a .start) (c .before .headed .ensures (not-false _ (c .if1 .left)))
+    fast-start (a .s .now) (a .start) (c .before .headed .ensures (not-false _ (c .if1 .left)))
 
 closing-requires : tie.Need-closing-requires Inv-loop μ-loop
 closing-requires c κs = search needs
 
-field-near-requires : tie.Need-field-near-requires Inv-loop μ-loop
-field-near-requires c κs =
+fast-field-requires : tie.Need-fast-field-requires Inv-loop μ-loop
+fast-field-requires c κs =
     let l = c .before .before .loop in
-    (omega (arith, l .inv .near, c .before .loop-test .taken, c .before .before .before .before .before .before .pre), rw (c .closing .ensures) (closing-plain (l .k)))
+    (omega (arith, l .inv .bound, c .before .loop-test .taken, c .before .before .before .before .before .before .pre), rw (c .closing .ensures) (closing-plain (l .k)))
 
 no-sample-requires-2 : tie.Need-no-sample-requires-2 Inv-loop μ-loop
 no-sample-requires-2 c κs = search needs
@@ -59,9 +59,9 @@ array-write-slice c =
 shared-slice-read-if4 : tie.Need-shared-slice-read-if4 Inv-loop μ-loop
 shared-slice-read-if4 c =
     let n = c .before .before in
-    let few = n .before .before .field-near .ensures (not-false _ (n .if2 .left)) .few in
+    let few = n .before .before .fast-field .ensures (not-false _ (n .if2 .left)) .few in
     let l = n .before .before .before .before in
-    omega (arith, few, l .loop-test .taken, l .before .loop .inv .near, l .before .before .before .before .before .pre)
+    omega (arith, few, l .loop-test .taken, l .before .loop .inv .bound, l .before .before .before .before .before .pre)
 
 no-sample-requires-3 : tie.Need-no-sample-requires-3 Inv-loop μ-loop
 no-sample-requires-3 c κs = search needs
@@ -72,9 +72,9 @@ returns-3 c found = absurd (false≢true (sym (c .no-sample3 .ensures) ∙ found
 add-at-2 : tie.Need-add-at-2 Inv-loop μ-loop
 add-at-2 c =
     let n = c .before .before .before in
-    let few = n .before .before .field-near .ensures (not-false _ (n .if2 .left)) .few in
+    let few = n .before .before .fast-field .ensures (not-false _ (n .if2 .left)) .few in
     let l = n .before .before .before .before in
-    omega (arith, few, l .loop-test .taken, l .before .loop .inv .near, l .before .before .before .before .before .pre)
+    omega (arith, few, l .loop-test .taken, l .before .loop .inv .bound, l .before .before .before .before .before .pre)
 
 add-k : tie.Need-add-k Inv-loop μ-loop
 add-k c = search needs
@@ -85,7 +85,7 @@ loop-less c = search needs
 loop-again : tie.Need-loop-again Inv-loop μ-loop
 loop-again c =
     let n = c .before in
-    let x = n .before .before .field-near in
+    let x = n .before .before .fast-field in
     let l = n .before .before .before .before .before in
     let p = l .before .before .before .before in
     let e = rw (n .before .before .before .closing .ensures) at (x .ensures (not-false _ (n .if2 .left))) in
@@ -97,7 +97,7 @@ loop-again c =
 shared-slice-read-if5 : tie.Need-shared-slice-read-if5 Inv-loop μ-loop
 shared-slice-read-if5 c =
     let g = c .before .before .loop .inv in
-    omega (arith, g .near, g .count, c .before .before .before .before .before .before .pre)
+    omega (arith, g .bound, g .count, c .before .before .before .before .before .before .pre)
 
 no-sample-requires-4 : tie.Need-no-sample-requires-4 Inv-loop μ-loop
 no-sample-requires-4 c κs = search needs
@@ -108,16 +108,16 @@ returns-4 c found = absurd (false≢true (sym (c .no-sample4 .ensures) ∙ found
 add-t19 : tie.Need-add-t19 Inv-loop μ-loop
 add-t19 c =
     let g = c .before .before .before .loop .inv in
-    omega (arith, g .near, g .count, c .before .before .before .before .before .before .before .pre)
+    omega (arith, g .bound, g .count, c .before .before .before .before .before .before .before .pre)
 
 returns-5 : tie.Need-returns-5 Inv-loop μ-loop
 returns-5 c found =
     let l = c .before .before .before .loop in
     let p = c .before .before .before .before .before .before .before in
-    straight-ends (p .args .s .now) (p .args .start) (l .slice) (l .k) (l .at) (l .inv) (c .before .before .loop-test .left) (p .pre) (c .if5 .left)
+    fast-ends (p .args .s .now) (p .args .start) (l .slice) (l .k) (l .at) (l .inv) (c .before .before .loop-test .left) (p .pre) (c .if5 .left)
 
-pub near-at-spec : {M : Type 1} → statement M
-near-at-spec =
+pub fast-sample-at-spec : {M : Type 1} → statement M
+fast-sample-at-spec =
     tie.close
     (tie.spec
     Inv-loop
@@ -128,7 +128,7 @@ near-at-spec =
     add-at
     loop-holds
     closing-requires
-    field-near-requires
+    fast-field-requires
     no-sample-requires-2
     returns-2
     mul-slice
