@@ -8,6 +8,7 @@ use native.Mathlib.Omega.{arith}
 use lib.Dec.{leb, eqb}
 use lib.ListN.{length}
 use borrow.Author.Tests.{le-leb, leb-true, eqb-false}
+use Rattle.rules.specs.Settings.{sheetLines}
 use Rattle.rules.specs.Samples.{Equipment}
 use Rattle.rules.specs.Transcripts.{inputEnd}
 use Rattle.rules.specs.declared.Settings.{Settings}
@@ -35,13 +36,13 @@ fit-check {q} m st SettingsCheck.Accepted f p a b =
       from-one = omega arith;
       low = omega (arith, f .low);
       high = omega (arith, f .high);
-      sheet = by (eqb (q .line) 13) refl;
+      sheet = by (eqb (q .line) sheetLines) refl;
     }
   where
-    by : (k : Bool) → eqb (q .line) 13 ≡ k → eqb (cond k 1 0) 0 ≡ true → q .line + 1 ≤ 13
+    by : (k : Bool) → eqb (q .line) sheetLines ≡ k → eqb (cond k 1 0) 0 ≡ true → q .line + 1 ≤ sheetLines
     by true e r = absurd (false≢true r)
     by false e r =
-        let other : q .line ≡ 13 → ⊥ = eqb-false (q .line) 13 e in
+        let other : q .line ≡ sheetLines → ⊥ = eqb-false (q .line) sheetLines e in
         let low = f .sheet p in omega arith
 
 pub fit-said : (e : Equipment) {q : State} {n : ℕ} (l : List ℕ) → isDone q ≡ false → Fit q n → length l + 1 ≤ n → Fit (said e q l .state) (n - (length l + 1))
@@ -60,17 +61,17 @@ fit-said e {q} {n} l p f h = rw p (by (readsSheet q) refl)
 pub sensible-fit : (q : State) → sensible q ≡ true → Fit q 0
 unfolding sensible
 sensible-fit q e =
-    let a = both (leb 1 (q .line)) (leb (q .taken) inputEnd && (leb (q .line) (q .taken + 1) && (not (readsSheet q) || leb (q .line) 13))) e in
-    let b = both (leb (q .taken) inputEnd) (leb (q .line) (q .taken + 1) && (not (readsSheet q) || leb (q .line) 13)) (a .1) in
-    let c = both (leb (q .line) (q .taken + 1)) (not (readsSheet q) || leb (q .line) 13) (b .1) in
+    let a = both (leb 1 (q .line)) (leb (q .taken) inputEnd && (leb (q .line) (q .taken + 1) && (not (readsSheet q) || leb (q .line) sheetLines))) e in
+    let b = both (leb (q .taken) inputEnd) (leb (q .line) (q .taken + 1) && (not (readsSheet q) || leb (q .line) sheetLines)) (a .1) in
+    let c = both (leb (q .line) (q .taken + 1)) (not (readsSheet q) || leb (q .line) sheetLines) (b .1) in
     record {
       from-one = leb-true 1 (q .line) (a .0);
       low = leb-true (q .line) (q .taken + 1) (c .0);
       high = omega (arith, leb-true (q .taken) inputEnd (b .0));
-      sheet = λ p. leb-true (q .line) 13 (by (readsSheet q) p (c .1));
+      sheet = λ p. leb-true (q .line) sheetLines (by (readsSheet q) p (c .1));
     }
   where
-    by : (k : Bool) → k ≡ true → (not k || leb (q .line) 13) ≡ true → leb (q .line) 13 ≡ true
+    by : (k : Bool) → k ≡ true → (not k || leb (q .line) sheetLines) ≡ true → leb (q .line) sheetLines ≡ true
     by true p r = r
     by false p r = absurd (false≢true p)
 
@@ -79,8 +80,8 @@ unfolding sensible
 fit-sensible q n f =
     rw (le-leb 1 (q .line) (f .from-one), le-leb (q .line) (q .taken + 1) (f .low), le-leb (q .taken) inputEnd (omega (arith, f .high))) (by (readsSheet q) (f .sheet))
   where
-    by : (k : Bool) → (k ≡ true → q .line ≤ 13) → (not k || leb (q .line) 13) ≡ true
-    by true p = le-leb (q .line) 13 (p refl)
+    by : (k : Bool) → (k ≡ true → q .line ≤ sheetLines) → (not k || leb (q .line) sheetLines) ≡ true
+    by true p = le-leb (q .line) sheetLines (p refl)
     by false p = refl
 
 pub fit-read : (q : State) (n : ℕ) → Fit q n → readState q ≡ q

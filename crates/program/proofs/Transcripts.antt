@@ -9,7 +9,7 @@ use native.Mathlib.Omega.{arith}
 use borrow.Author.Tests.{eq-eqb, ne-eqb}
 use lib.ListN.{length, length-append, drop}
 use lib.Seq.{drop-drop}
-use Rattle.rules.specs.Settings.{Pair}
+use Rattle.rules.specs.Settings.{sheetLines, Pair}
 use Rattle.rules.specs.Samples.{Equipment}
 use Rattle.rules.specs.Text.{firstLine, hasFeed, afterLine}
 use Rattle.rules.specs.Forms.{numbersOf, sampleForm}
@@ -90,7 +90,7 @@ reading st i at = record { phase = 0; line = i + 1; long = false; taken = at; se
 abbrev to-the-end : Equipment → List ℕ → SheetReading → List ℕ
 to-the-end e s r = onSheet e r (r .check) s
 
-module _ (e : Equipment) (s : List ℕ) (i at : ℕ) (lines : List (List Pair)) (h : i < 13) (long : length lines ≡ i) where
+module _ (e : Equipment) (s : List ℕ) (i at : ℕ) (lines : List (List Pair)) (h : i < sheetLines) (long : length lines ≡ i) where
   abbrev line : List ℕ
   line = firstLine (drop at s)
 
@@ -159,14 +159,14 @@ module _ (e : Equipment) (s : List ℕ) (i at : ℕ) (lines : List (List Pair)) 
     by-check rest (SettingsCheck.Refused cause n) c = refused-text cause n c
 
 -- past the thirteenth line
-sheet-done : (e : Equipment) (s : List ℕ) (at : ℕ) (lines : List (List Pair)) (i : ℕ) → i ≡ 13
+sheet-done : (e : Equipment) (s : List ℕ) (at : ℕ) (lines : List (List Pair)) (i : ℕ) → i ≡ sheetLines
     → resume e (record { phase = 1; line = i + 1; long = false; taken = at; settings = settingsOf lines; board = fresh }) (drop at s) ≡ to-the-end e s (from s i at lines)
 sheet-done e s at lines i is =
     resume-samples e (settingsOf lines) fresh (i + 1) at (drop at s)
     ∙ rw is refl
     ∙ sym (ap (to-the-end e s) (from-end s i at lines (omega arith)))
 
-sheet-within : (e : Equipment) (k : ℕ) (s : List ℕ) (i at : ℕ) (lines : List (List Pair)) → i + suc k ≡ 13 → length lines ≡ i
+sheet-within : (e : Equipment) (k : ℕ) (s : List ℕ) (i at : ℕ) (lines : List (List Pair)) → i + suc k ≡ sheetLines → length lines ≡ i
     → resume e (reading (settingsOf lines) i at) (drop at s) ≡ to-the-end e s (from s i at lines)
 sheet-within e zero s i at lines is long = by (hasFeed (drop at s)) refl
   where
@@ -174,7 +174,7 @@ sheet-within e zero s i at lines is long = by (hasFeed (drop at s)) refl
     by false f = unended-text e s i at lines (omega arith) long f
     by true f =
         by-check e s i at lines (omega arith) long f
-        (λ more l. rw (eq-eqb (i + 1) 13 (omega arith)) (sheet-done e s (past e s i at lines (omega arith) long) more (i + 1) (omega arith)))
+        (λ more l. rw (eq-eqb (i + 1) sheetLines (omega arith)) (sheet-done e s (past e s i at lines (omega arith) long) more (i + 1) (omega arith)))
         (lineRead i (firstLine (drop at s)) (settingsOf lines) .check) refl
 sheet-within e (suc k) s i at lines is long =
     by (hasFeed (drop at s)) refl (λ more l. sheet-within e k s (i + 1) (at + length (firstLine (drop at s)) + 1) more (omega arith) l)
@@ -185,7 +185,7 @@ sheet-within e (suc k) s i at lines is long =
     by false f rest = unended-text e s i at lines (omega arith) long f
     by true f rest =
         by-check e s i at lines (omega arith) long f
-        (λ more l. rw (ne-eqb (i + 1) 13 (λ z. omega arith)) (rest more l))
+        (λ more l. rw (ne-eqb (i + 1) sheetLines (λ z. omega arith)) (rest more l))
         (lineRead i (firstLine (drop at s)) (settingsOf lines) .check) refl
 
 pub resume-start : (e : Equipment) (s : List ℕ) → resume e start s ≡ transcriptOf e s
@@ -201,7 +201,7 @@ record Known (s : List ℕ) (r : SheetReading) : Type 0 where
   pub check : r .check ≡ SettingsCheck.Refused cause line
   pub fed : hasFeed (drop (r .start) s) ≡ true
 
-known-by : (e : Equipment) (s : List ℕ) (i at : ℕ) (lines : List (List Pair)) (h : i < 13) (long : length lines ≡ i) → Known s (from s i at lines) → (b : Bool) → hasFeed (drop at s) ≡ b
+known-by : (e : Equipment) (s : List ℕ) (i at : ℕ) (lines : List (List Pair)) (h : i < sheetLines) (long : length lines ≡ i) → Known s (from s i at lines) → (b : Bool) → hasFeed (drop at s) ≡ b
     → ((more : List (List Pair)) → length more ≡ i + 1 → Known s (from s (i + 1) (at + length (firstLine (drop at s)) + 1) more)
     → doneAfter e (record { phase = phaseAfter (i + 1); line = i + 1 + 1; long = false; taken = at + length (firstLine (drop at s)) + 1; settings = settingsOf more; board = fresh }) (linesIn (drop (at + length (firstLine (drop at s)) + 1) s)) ≡ true)
     → doneAfter e (reading (settingsOf lines) i at) (linesIn (drop at s)) ≡ true
@@ -234,7 +234,7 @@ known-by e s i at lines h long k true f rest = by (line-read .check) refl
             let onto : onRead q (length (firstLine (drop at s)) + 1) line-read ≡ record { state = onward e s i at lines h long f (settingsOf more); text = [] } = rw (c, st, same) in
             stepped (record { state = onward e s i at lines h long f (settingsOf more); text = [] }) onto ∙ rest more l (subst (Known s) is k)
 
-known-within : (e : Equipment) (k : ℕ) (s : List ℕ) (i at : ℕ) (lines : List (List Pair)) → i + suc k ≡ 13 → length lines ≡ i → Known s (from s i at lines)
+known-within : (e : Equipment) (k : ℕ) (s : List ℕ) (i at : ℕ) (lines : List (List Pair)) → i + suc k ≡ sheetLines → length lines ≡ i → Known s (from s i at lines)
     → doneAfter e (reading (settingsOf lines) i at) (linesIn (drop at s)) ≡ true
 known-within e zero s i at lines is long known =
     known-by e s i at lines (omega arith) long known (hasFeed (drop at s)) refl
@@ -244,7 +244,7 @@ known-within e zero s i at lines is long known =
     let z : _≡_ {A = ℕ} 0 1 = cc in absurd (omega arith))
 known-within e (suc k) s i at lines is long known =
     known-by e s i at lines (omega arith) long known (hasFeed (drop at s)) refl
-    (λ more l n. rw (ne-eqb (i + 1) 13 (λ z. omega arith)) (known-within e k s (i + 1) (at + length (firstLine (drop at s)) + 1) more (omega arith) l n))
+    (λ more l n. rw (ne-eqb (i + 1) sheetLines (λ z. omega arith)) (known-within e k s (i + 1) (at + length (firstLine (drop at s)) + 1) more (omega arith) l n))
 
 pub known-ends : (e : Equipment) (s : List ℕ) (cause : Refusal) (n : ℕ) → readSheet s .check ≡ SettingsCheck.Refused cause n → hasFeed (drop (readSheet s .start) s) ≡ true
     → doneAfter e start (linesIn s) ≡ true

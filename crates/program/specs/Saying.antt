@@ -7,6 +7,7 @@ use Prim.Native.Nat.{ℕ, _+_, _-_}
 use lib.Dec.{eqb}
 use lib.IntN.{ℤ}
 use lib.ListN.{length}
+use Rattle.rules.specs.Settings.{sheetLines}
 use Rattle.rules.specs.Samples.{Equipment}
 use Rattle.rules.specs.Forms.{sampleForm, numbersOf}
 use Rattle.rules.specs.Transcripts.{Line, ended, unended, linesIn, refusedLine, answerLine, onSampleNumbers}
@@ -33,7 +34,7 @@ numbersIn long form l = cond long none (numbersOf form l)
 
 -- line 13 is the sheet's last
 abbrev pub phaseAfter : ℕ → ℕ
-phaseAfter line = cond (eqb line 13) 1 0
+phaseAfter line = cond (eqb line sheetLines) 1 0
 
 -- spec 10.6: a refused sheet ends all; n is how many bytes the line took
 abbrev pub onCheck : State → ℕ → Settings → SettingsCheck → Said

@@ -5,6 +5,7 @@ use mathlib.Core.Bool.{Bool, true, false, cond, not, _&&_, _||_}
 use mathlib.Core.List.{[]}
 use Prim.Native.Nat.{ℕ, _+_, _≤_}
 use lib.Dec.{leb, eqb}
+use Rattle.rules.specs.Settings.{sheetLines}
 use Rattle.rules.specs.Records.{fresh}
 use Rattle.rules.specs.Sheets.{settingsOf}
 use Rattle.rules.specs.Transcripts.{inputEnd}
@@ -29,7 +30,7 @@ stopped q n =
 -- each line before this one took a byte, and a sheet has thirteen lines
 unfoldable pub sensible : State → Bool
 sensible q =
-    leb 1 (q .line) && (leb (q .taken) inputEnd && (leb (q .line) (q .taken + 1) && (not (readsSheet q) || leb (q .line) 13)))
+    leb 1 (q .line) && (leb (q .taken) inputEnd && (leb (q .line) (q .taken + 1) && (not (readsSheet q) || leb (q .line) sheetLines)))
 
 -- any other state is read as one where all is done
 unfoldable pub readState : State → State
@@ -40,4 +41,4 @@ pub record Fit (q : State) (n : ℕ) : Type 0 where
   pub from-one : 1 ≤ q .line
   pub low : q .line ≤ q .taken + 1
   pub high : q .taken + n ≤ inputEnd
-  pub sheet : readsSheet q ≡ true → q .line ≤ 13
+  pub sheet : readsSheet q ≡ true → q .line ≤ sheetLines

@@ -33,6 +33,10 @@ pub record Row : Type 0 where
 abbrev pub row : ℕ → ℕ → ℕ → ℕ → Row
 row a b c d = record { firstLow = pos a; firstHigh = pos b; secondLow = pos c; secondHigh = pos d }
 
+-- spec 3.1: how many lines a sheet has
+abbrev pub sheetLines : ℕ
+sheetLines = 13
+
 -- spec 3.5: a row a line, in sheet order
 unfoldable pub rows : List Row
 rows =

@@ -1,6 +1,9 @@
 // The declared types of the interface board. What they mean stands in specs/, in the order of document 01. Those that a C or Rust
 // program lends are laid out as C lays them out.
 
+// How many lines a sheet has; `sheetLines` in specs/.
+pub const SHEET_LINES: usize = 13;
+
 // A trip line: a voltage or frequency limit, and its clearing time in steps.
 #[repr(C)]
 pub struct Limit {

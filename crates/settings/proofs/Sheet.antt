@@ -10,7 +10,7 @@ use borrow.Author.Tests.{ne-eqb}
 use lib.Dec.{eqb}
 use lib.ListN.{length, getD, drop, length-map, List·getD-map}
 use Rattle.basics.proofs.Tables.{tabulated, tabulated-at}
-use Rattle.rules.specs.Settings.{linesOf, tripLine, pointPair}
+use Rattle.rules.specs.Settings.{sheetLines, linesOf, tripLine, pointPair}
 use Rattle.rules.specs.declared.Settings.{Settings}
 use Rattle.settings.specs.Lines.{lineAt, pairsIn}
 
@@ -37,10 +37,10 @@ pub unmapped : (X Y : Type 0) (l : List X) (f : X → Y) (n : ℕ) → length (m
 unmapped X Y l f n e = sym (length-map l f) ∙ e
 
 module _ (s : Settings) (four : length (s .var) ≡ 4) (two : length (s .watt) ≡ 2) where
-  lengths : map length (linesOf s) ≡ tabulated pairsIn 0 13
+  lengths : map length (linesOf s) ≡ tabulated pairsIn 0 sheetLines
   unfolding linesOf
   lengths = rw (length-map (s .var) pointPair, length-map (s .watt) pointPair, four, two)
 
-  pub pairs-at : (i : ℕ) → i < 13 → length (lineAt s i) ≡ pairsIn i
+  pub pairs-at : (i : ℕ) → i < sheetLines → length (lineAt s i) ≡ pairsIn i
   pairs-at i h =
-      rw (← List·getD-map length (linesOf s) i [], lengths) (rw zero-add at (tabulated-at pairsIn 0 13 [] i 0 h))
+      rw (← List·getD-map length (linesOf s) i [], lengths) (rw zero-add at (tabulated-at pairsIn 0 sheetLines [] i 0 h))

@@ -11,7 +11,7 @@ use lib.ListN.{length, getD, drop, length-drop, drop-of-length-le}
 use lib.Seq.{drop-cons}
 use lib.Signed.{ltZ}
 use Rattle.rules.specs.Tests.{all}
-use Rattle.rules.specs.Settings.{Pair, pair, Row, row, rows, inRow, rising, lineCheck, checkFrom, linesOf}
+use Rattle.rules.specs.Settings.{sheetLines, Pair, pair, Row, row, rows, inRow, rising, lineCheck, checkFrom, linesOf}
 use Rattle.rules.specs.declared.Settings.{Settings}
 use Rattle.rules.specs.declared.Refusal.{Refusal}
 use Rattle.rules.specs.declared.Refusal.the-variants.{Range, Rise}
@@ -50,11 +50,11 @@ rise-end l k h = short (drop k l) (simp length-drop (omega arith))
 
 -- ---- the lines in order
 
-rows-long : length rows ≡ 13
+rows-long : length rows ≡ sheetLines
 unfolding rows
 rows-long = refl
 
-lines-long : (s : Settings) → length (linesOf s) ≡ 13
+lines-long : (s : Settings) → length (linesOf s) ≡ sheetLines
 unfolding linesOf
 lines-long s = refl
 
@@ -62,14 +62,14 @@ lines-long s = refl
 abbrev pub from : Settings → ℕ → SettingsCheck
 from s i = checkFrom (i + 1) (drop i rows) (drop i (linesOf s))
 
-pub line-more : (s : Settings) (i : ℕ) → i < 13 → from s i ≡ lineCheck (rowAt i) (lineAt s i) (from s (i + 1)) (λ cause. SettingsCheck.Refused cause (i + 1))
+pub line-more : (s : Settings) (i : ℕ) → i < sheetLines → from s i ≡ lineCheck (rowAt i) (lineAt s i) (from s (i + 1)) (λ cause. SettingsCheck.Refused cause (i + 1))
 unfolding checkFrom
 line-more s i h =
     let r : i < length rows = omega (arith, rows-long) in
     let l : i < length (linesOf s) = omega (arith, lines-long s) in
     rw (drop-cons rows i (row 0 0 0 0), drop-cons (linesOf s) i [], add-one (i + 1), add-one i)
 
-pub line-end : (s : Settings) (i : ℕ) → 13 ≤ i → from s i ≡ SettingsCheck.Accepted
+pub line-end : (s : Settings) (i : ℕ) → sheetLines ≤ i → from s i ≡ SettingsCheck.Accepted
 unfolding checkFrom
 line-end s i h = rw (drop-of-length-le rows {i = i} (omega (arith, rows-long)))
 

@@ -3,7 +3,7 @@ ghost use mathlib.Core.Path.{_≡_};
 ghost use mathlib.Core.List.{map};
 ghost use Prim.Native.Nat.{_<_};
 ghost use Rattle.rules.specs.Tests.{all};
-ghost use Rattle.rules.specs.Settings.{inRow, rising, settingsCheck};
+ghost use Rattle.rules.specs.Settings.{sheetLines, inRow, rising, settingsCheck};
 ghost use Rattle.settings.specs.Rows.{rowOf, rowAt};
 ghost use Rattle.settings.specs.Lines.{lineAt, lineFound};
 
@@ -16,12 +16,13 @@ use ranges::Row;
 use ranges::in_row;
 use ranges::table;
 use rules::Refusal;
+use rules::SHEET_LINES;
 use rules::Settings;
 use rules::SettingsCheck;
 
 // Whether every pair of a line lies in a row.
 fn in_range(row: Row, s: Settings, line: usize) -> bool
-    requires { ⌜ line < 13 ⌝ }
+    requires { ⌜ line < sheetLines ⌝ }
     ensures { λ r. ⌜ r ≡ all (map (inRow (rowOf row)) (lineAt s line)) ⌝ }
 {
     let count = pairs_in(line);
@@ -38,7 +39,7 @@ fn in_range(row: Row, s: Settings, line: usize) -> bool
 
 // Whether the first numbers along a line rise strictly.
 fn rises(s: Settings, line: usize) -> bool
-    requires { ⌜ line < 13 ⌝ }
+    requires { ⌜ line < sheetLines ⌝ }
     ensures { λ r. ⌜ r ≡ rising (lineAt s line) ⌝ }
 {
     let last = pairs_in(line) - 1;
@@ -56,7 +57,7 @@ fn rises(s: Settings, line: usize) -> bool
 
 // Refusals 2 and 3 of one line, 2 before 3 (spec 4.3).
 fn line_check(row: Row, s: Settings, line: usize) -> SettingsCheck
-    requires { ⌜ line < 13 ⌝ }
+    requires { ⌜ line < sheetLines ⌝ }
     ensures { λ r. ⌜ r ≡ lineFound (rowOf row) (lineAt s line) line ⌝ }
 {
     let range = in_range(row, s, line);
@@ -73,7 +74,7 @@ fn line_check(row: Row, s: Settings, line: usize) -> SettingsCheck
 
 // The same for a line of settings, counted from 0.
 pub fn check_line(s: Settings, line: usize) -> SettingsCheck
-    requires { ⌜ line < 13 ⌝ }
+    requires { ⌜ line < sheetLines ⌝ }
     ensures { λ r. ⌜ r ≡ lineFound (rowAt line) (lineAt s line) line ⌝ }
 {
     let rows = table();
@@ -87,7 +88,7 @@ pub fn check(s: Settings) -> SettingsCheck
 {
     let rows = table();
     let mut line = 0;
-    while line < 13 {
+    while line < SHEET_LINES {
         let row = rows[line];
         let found = line_check(row, s, line);
         line += 1;

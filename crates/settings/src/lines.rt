@@ -2,7 +2,7 @@
 ghost use mathlib.Core.Path.{_≡_};
 ghost use Prim.Native.Nat.{_<_};
 ghost use lib.IntN.{pos};
-ghost use Rattle.rules.specs.Settings.{pair, pointPair};
+ghost use Rattle.rules.specs.Settings.{sheetLines, pair, pointPair};
 ghost use Rattle.settings.specs.Lines.{pairOf, pairAt, pairsIn};
 use rules::Point;
 use rules::Settings;
@@ -56,7 +56,7 @@ pub fn pairs_in(line: usize) -> usize
 
 // Pair k of a line, both counted from 0.
 pub fn pair_at(s: Settings, line: usize, k: usize) -> Pair
-    requires { ⌜ (line < 13) × (k < pairsIn line) ⌝ }
+    requires { ⌜ (line < sheetLines) × (k < pairsIn line) ⌝ }
     ensures { λ r. ⌜ pairOf r ≡ pairAt s line k ⌝ }
 {
     if line < 8 {

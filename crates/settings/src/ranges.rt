@@ -7,12 +7,13 @@ ghost use Rattle.rules.specs.Settings.{rows, inRow};
 ghost use Rattle.settings.specs.Rows.{rowOf};
 ghost use Rattle.settings.specs.Lines.{pairOf};
 use crate::lines::Pair;
+use rules::SHEET_LINES;
 
 // Lowest and highest of a line's first number, then of its second, ends included.
 pub struct Row(pub i64, pub i64, pub i64, pub i64);
 
 // A row a line, in sheet order.
-const ROWS: [Row; 13] = [
+const ROWS: [Row; SHEET_LINES] = [
     Row(0, 8800, 2100, 5000), // uv1
     Row(0, 5000, 200, 2100), // uv2
     Row(11000, 12000, 100, 1300), // ov1
@@ -29,7 +30,7 @@ const ROWS: [Row; 13] = [
 ];
 
 // The whole table.
-pub fn table() -> [Row; 13]
+pub fn table() -> [Row; SHEET_LINES]
     ensures { λ r. ⌜ map rowOf r ≡ rows ⌝ }
 {
     ROWS

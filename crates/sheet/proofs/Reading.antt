@@ -11,7 +11,7 @@ use lib.IntN.{ℤ}
 use lib.Dec.{ltb}
 use lib.ListN.{length, length-append, getD, take, drop, drop-of-length-le, List·getD-append}
 use lib.Seq.{drop-cons, drop-drop}
-use Rattle.rules.specs.Settings.{Pair, row, rows}
+use Rattle.rules.specs.Settings.{sheetLines, Pair, row, rows}
 use Rattle.rules.specs.Text.{firstLine, hasFeed, afterLine}
 use Rattle.rules.specs.Forms.{sheetForms, sampleForm, numbersOf}
 use Rattle.rules.specs.Sheets.{pairs, settingsOf, SheetReading, refusedAt, onNumbers, readFrom, readSheet}
@@ -32,15 +32,15 @@ use Rattle.sheet.specs.Outcomes.{Gives}
 use Rattle.sheet.specs.declared.LineRead.{LineRead}
 use Rattle.sheet.proofs.Stored.{in-line, one-more, eight-limits}
 
-rows-long : length rows ≡ 13
+rows-long : length rows ≡ sheetLines
 unfolding rows
 rows-long = refl
 
-forms-long : length sheetForms ≡ 13
+forms-long : length sheetForms ≡ sheetLines
 unfolding sheetForms
 forms-long = refl
 
-form-here : (i : ℕ) → i < 13 → getD sheetForms i [] ≡ formAt i
+form-here : (i : ℕ) → i < sheetLines → getD sheetForms i [] ≡ formAt i
 unfolding forms
 form-here i h = sym (List·getD-append sheetForms (sampleForm ∷ []) [] i (omega (arith, forms-long)))
 
@@ -48,14 +48,14 @@ form-here i h = sym (List·getD-append sheetForms (sampleForm ∷ []) [] i (omeg
 abbrev pub from : List ℕ → ℕ → ℕ → List (List Pair) → SheetReading
 from s i at lines = readFrom (i + 1) at lines (drop i rows) (drop i sheetForms) (drop at s)
 
-pub from-unended : (s : List ℕ) (i at : ℕ) (lines : List (List Pair)) → i < 13 → hasFeed (drop at s) ≡ false → from s i at lines ≡ refusedAt Form (i + 1) at
+pub from-unended : (s : List ℕ) (i at : ℕ) (lines : List (List Pair)) → i < sheetLines → hasFeed (drop at s) ≡ false → from s i at lines ≡ refusedAt Form (i + 1) at
 unfolding readFrom
 from-unended s i at lines h e =
     let r : i < length rows = omega (arith, rows-long) in
     let f : i < length sheetForms = omega (arith, forms-long) in
     rw (drop-cons rows i (row 0 0 0 0), drop-cons sheetForms i [], e)
 
-module _ (s : List ℕ) (i at : ℕ) (lines : List (List Pair)) (h : i < 13) (e : hasFeed (drop at s) ≡ true) where
+module _ (s : List ℕ) (i at : ℕ) (lines : List (List Pair)) (h : i < sheetLines) (e : hasFeed (drop at s) ≡ true) where
   abbrev line : List ℕ
   line = firstLine (drop at s)
 
@@ -145,7 +145,7 @@ module _ (s : List ℕ) (i at : ℕ) (lines : List (List Pair)) (h : i < 13) (e 
             refused-numbers ns p cause n (sym (ap (λ (k : LineRead). k .check) is) ∙ c)
 
 -- past the last line
-pub from-end : (s : List ℕ) (i at : ℕ) (lines : List (List Pair)) → 13 ≤ i → from s i at lines ≡ record { check = SettingsCheck.Accepted; settings = settingsOf lines; start = at }
+pub from-end : (s : List ℕ) (i at : ℕ) (lines : List (List Pair)) → sheetLines ≤ i → from s i at lines ≡ record { check = SettingsCheck.Accepted; settings = settingsOf lines; start = at }
 unfolding readFrom
 from-end s i at lines h = rw (drop-of-length-le rows {i = i} (omega (arith, rows-long)))
 
@@ -154,7 +154,7 @@ from-end s i at lines h = rw (drop-of-length-le rows {i = i} (omega (arith, rows
 pub record Going (s : List ℕ) (settings : Settings) (at i : ℕ) : Type 0 where
   pub lines : List (List Pair)
   pub long : length lines ≡ i
-  pub low : i ≤ 13
+  pub low : i ≤ sheetLines
   pub inside : at ≤ length s
   pub held : settings ≡ settingsOf lines
   pub reading : readSheet s ≡ from s i at lines
@@ -171,7 +171,7 @@ read-is s i at end settings lines r e p q =
     let n : end - at ≡ length (firstLine (drop at s)) = omega arith in
     e ∙ ap₂ (lineRead i) (ap (λ (k : ℕ). take k (drop at s)) n ∙ line-take (drop at s)) q
 
-module _ (s : List ℕ) (settings : Settings) (at i end : ℕ) (going : Going s settings at i) (h : i < 13)
+module _ (s : List ℕ) (settings : Settings) (at i end : ℕ) (going : Going s settings at i) (h : i < sheetLines)
     (place : end ≡ at + length (firstLine (drop at s))) (ended : ltb end (length s) ≡ hasFeed (drop at s)) where
   -- an unended or missing line
   pub unended : length s ≤ end → (n : ℕ) (zeros : Settings) → n ≡ i + 1 → zeros ≡ settingsOf [] → Gives (record { check = SettingsCheck.Refused Form n; settings = zeros; start = at }) (readSheet s)
@@ -205,6 +205,6 @@ module _ (s : List ℕ) (settings : Settings) (at i end : ℕ) (going : Going s 
         let k = on-refused s i at (going .lines) h feed-there (going .long) r line-is cause n c in
         rw (going .reading ∙ k .0) (record { check = c ∙ ap (SettingsCheck.Refused cause) (k .1); settings = q; start = refl })
 
-pub finished : (s : List ℕ) (settings : Settings) (at i : ℕ) → Going s settings at i → 13 ≤ i → Gives (record { check = SettingsCheck.Accepted; settings = settings; start = at }) (readSheet s)
+pub finished : (s : List ℕ) (settings : Settings) (at i : ℕ) → Going s settings at i → sheetLines ≤ i → Gives (record { check = SettingsCheck.Accepted; settings = settings; start = at }) (readSheet s)
 finished s settings at i going l =
     rw (going .reading ∙ from-end s i at (going .lines) l) (record { check = refl; settings = going .held; start = refl })

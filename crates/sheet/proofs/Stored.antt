@@ -10,7 +10,7 @@ use lib.IntN.{ℤ, pos}
 use lib.ListN.{length, getD, set}
 use lib.Seq.{getD-set-same}
 use borrow.Author.Tests.{lt-ltb}
-use Rattle.rules.specs.Settings.{Pair, pair, noLimit, linesOf}
+use Rattle.rules.specs.Settings.{sheetLines, Pair, pair, noLimit, linesOf}
 use Rattle.rules.specs.Sheets.{pairs, settingsOf}
 use Rattle.rules.specs.declared.Limit.{Limit}
 use Rattle.rules.specs.declared.Settings.{Settings}
@@ -67,7 +67,7 @@ in-watt : (st : Settings) (a b c d : ℕ) → lineAt (withNumbers st 12 (padded 
 unfolding withNumbers linesOf
 in-watt st a b c d = refl
 
-pub in-line : (st : Settings) → length (st .trip) ≡ 8 → (i : ℕ) → i < 13 → (ns : List ℤ) → suits (formAt i) ns ≡ true → lineAt (withNumbers st i (padded ns)) i ≡ pairs ns
+pub in-line : (st : Settings) → length (st .trip) ≡ 8 → (i : ℕ) → i < sheetLines → (ns : List ℤ) → suits (formAt i) ns ≡ true → lineAt (withNumbers st i (padded ns)) i ≡ pairs ns
 in-line st eight i h ns e = by (decLt i 11) (decLt i 12)
   where
     to : (k : ℕ) → i ≡ k → suits (formAt k) ns ≡ true
@@ -140,7 +140,7 @@ watt-more a b c d [] e = absurd (omega arith)
 watt-more a b c d (first ∷ read) e =
     eleven (λ (k : List (List Pair)). withNumbers (settingsOf (first ∷ k)) 12 (padded (pos a ∷ pos b ∷ pos c ∷ pos d ∷ [])) ≡ settingsOf ((first ∷ k) ++ (pairs (pos a ∷ pos b ∷ pos c ∷ pos d ∷ []) ∷ []))) (λ r0 r1 r2 r3 r4 r5 r6 r7 r8 r9 r10. refl) read (omega arith)
 
-pub one-more : (read : List (List Pair)) (i : ℕ) → length read ≡ i → i < 13 → (ns : List ℤ) → suits (formAt i) ns ≡ true
+pub one-more : (read : List (List Pair)) (i : ℕ) → length read ≡ i → i < sheetLines → (ns : List ℤ) → suits (formAt i) ns ≡ true
     → withNumbers (settingsOf read) i (padded ns) ≡ settingsOf (read ++ (pairs ns ∷ []))
 one-more read i l h ns e = by (decLt i 11) (decLt i 12)
   where

@@ -2,6 +2,7 @@
 ghost use mathlib.Core.Path.{_≡_};
 ghost use Prim.Native.Nat.{_+_, _<_, _≤_};
 ghost use lib.ListN.{length};
+ghost use Rattle.rules.specs.Settings.{sheetLines};
 ghost use Rattle.rules.specs.Sheets.{readSheet};
 ghost use Rattle.sheet.specs.Storing.{lineRead};
 ghost use Rattle.sheet.specs.Outcomes.{Gives};
@@ -10,6 +11,7 @@ ghost use Rattle.sheet.specs.Parts.{IsPart, IsPartFrom};
 mod storing;
 
 use rules::Refusal;
+use rules::SHEET_LINES;
 use rules::Settings;
 use rules::SettingsCheck;
 use settings::check_line;
@@ -25,7 +27,7 @@ pub struct LineRead {
 }
 
 fn number_of(line: usize) -> u8
-    requires { ⌜ line < 13 ⌝ }
+    requires { ⌜ line < sheetLines ⌝ }
     ensures { λ r. ⌜ r ≡ line + 1 ⌝ }
 {
     (line + 1) as u8
@@ -33,7 +35,7 @@ fn number_of(line: usize) -> u8
 
 // Line i of a sheet, counted from 0, without its line feed: against its form, then for 2 and 3.
 pub fn read_line(i: usize, line: &[u8], before: Settings) -> LineRead
-    requires { ⌜ i < 13 ⌝ }
+    requires { ⌜ i < sheetLines ⌝ }
     ensures { λ r. ⌜ r ≡ lineRead i (now (line .entry)) before ⌝ }
 {
     let read = form_numbers(i, line);
@@ -59,7 +61,7 @@ pub struct SheetOutcome {
     pub start: usize,
 }
 
-// The sheet at the front of lent bytes. Bytes past the thirteenth line are not the sheet's.
+// The sheet at the front of lent bytes. What follows its last line is not looked at.
 pub fn read(s: &[u8]) -> SheetOutcome
     ensures { λ r. ⌜ Gives r (readSheet (now (s .entry))) ⌝ }
     ensures { λ r. ⌜ r .start ≤ length (now (s .entry)) ⌝ }
@@ -67,7 +69,7 @@ pub fn read(s: &[u8]) -> SheetOutcome
     let mut settings = no_settings();
     let mut at = 0;
     let mut i = 0;
-    while i < 13 {
+    while i < SHEET_LINES {
         let end = line_end(s, at);
         if end >= s.len() {
             return SheetOutcome {

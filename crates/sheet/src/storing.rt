@@ -2,7 +2,7 @@
 ghost use mathlib.Core.Path.{_≡_};
 ghost use mathlib.Core.List.{[], _∷_};
 ghost use Prim.Native.Nat.{_<_};
-ghost use Rattle.rules.specs.Settings.{pair};
+ghost use Rattle.rules.specs.Settings.{sheetLines, pair};
 ghost use Rattle.rules.specs.Sheets.{settingsOf, pointOf};
 ghost use Rattle.sheet.specs.Storing.{withNumbers, pointIn};
 use rules::Limit;
@@ -60,7 +60,7 @@ fn two_points(n: [i32; 8]) -> [Point; 2]
 
 // The settings with the numbers of line i, counted from 0.
 pub fn with_numbers(before: Settings, i: usize, n: [i32; 8]) -> Settings
-    requires { ⌜ i < 13 ⌝ }
+    requires { ⌜ i < sheetLines ⌝ }
     ensures { λ r. ⌜ r ≡ withNumbers before i n ⌝ }
 {
     let mut next = before;

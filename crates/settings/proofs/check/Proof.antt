@@ -3,7 +3,7 @@
 use mathlib.Core.Path.{_≡_, refl, sym, ap, _∙_}
 use Prim.Native.Nat.{_+_, _-_, _≤_}
 use native.Mathlib.Omega.{arith}
-use Rattle.rules.specs.Settings.{settingsCheck}
+use Rattle.rules.specs.Settings.{sheetLines, settingsCheck}
 use Rattle.rules.specs.declared.SettingsCheck.{SettingsCheck}
 use Rattle.settings.specs.Rows.{rowAt}
 use Rattle.settings.specs.Lines.{lineAt, lineFound}
@@ -14,10 +14,10 @@ use Rattle.settings.proofs.check.Statement.{statement}
 use Rattle.settings.proofs.check.Tie as tie
 
 abbrev Inv-loop : tie.InvT-loop
-Inv-loop s rows line₀ line = (line ≤ 13) × (settingsCheck s ≡ from s line)
+Inv-loop s rows line₀ line = (line ≤ sheetLines) × (settingsCheck s ≡ from s line)
 
 abbrev μ-loop : tie.MeasureT-loop
-μ-loop s rows line₀ line = 13 - line
+μ-loop s rows line₀ line = sheetLines - line
 
 table-requires : tie.Need-table-requires Inv-loop μ-loop
 table-requires c κs = search needs

@@ -4,6 +4,7 @@ use Prim.Native.Nat.{_-_}
 use native.Mathlib.Omega.{arith}
 use denote.Ref.{now}
 use borrow.Author.Needs.{needs}
+use Rattle.rules.specs.Settings.{sheetLines}
 use Rattle.sheet.proofs.Reading.{Going, beginning, unended, goes-on, stops, finished}
 use Rattle.sheet.proofs.read.Statement.{statement}
 use Rattle.sheet.proofs.read.Tie as tie
@@ -12,7 +13,7 @@ abbrev Inv-loop : tie.InvT-loop
 Inv-loop s settings₀ at₀ i₀ settings at i = Going s settings at i
 
 abbrev μ-loop : tie.MeasureT-loop
-μ-loop s settings₀ at₀ i₀ settings at i = 13 - i
+μ-loop s settings₀ at₀ i₀ settings at i = sheetLines - i
 
 no-settings-requires : tie.Need-no-settings-requires Inv-loop μ-loop
 no-settings-requires c κs = search needs
