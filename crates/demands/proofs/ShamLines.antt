@@ -15,7 +15,7 @@ use Rattle.rules.specs.Regions.{ourEquipment}
 use Rattle.rules.specs.Records.{fresh, turnedAway}
 use Rattle.rules.specs.Transcripts.{Line, ended, unended, lineStep}
 use Rattle.rules.specs.declared.Refusal.the-variants.{Sample}
-use Rattle.formats.specs.Marks.{filledIn, suits, lineForms, lineForm, ReadsForms}
+use Rattle.formats.specs.Marks.{filledIn, suits, forms, formAt, ReadsForms}
 use Rattle.formats.specs.Samples.{writable, writtenSample, IsSampleLine, AnswersSamples}
 use Rattle.formats.proofs.Samples.{sample-read}
 use Rattle.formats.proofs.SampleLines.{samples-answered}
@@ -26,16 +26,16 @@ use Rattle.demands.specs.Shams.{exampleSheet, largeNoNumber, stepsUnende
 abbrev outside : List ℤ
 outside = pos 12000 ∷ pos 100001 ∷ []
 
-suited : suits (lineForm 3) outside ≡ true
-unfolding suits lineForms sheetForms
+suited : suits (formAt 3) outside ≡ true
+unfolding suits forms sheetForms
 suited = refl
 
-missed : largeNoNumber (lineForm 3) (filledIn (lineForm 3) outside) ≡ none
-unfolding largeNoNumber numbersOf takeNumber takeSigned leadingDigits afterDigits valueAfter wellFormed within all filledIn signedDecimal decimal digitsBefore lineForms sheetForms sampleForm
+missed : largeNoNumber (formAt 3) (filledIn (formAt 3) outside) ≡ none
+unfolding largeNoNumber numbersOf takeNumber takeSigned leadingDigits afterDigits valueAfter wellFormed within all filledIn signedDecimal decimal digitsBefore forms sheetForms sampleForm
 missed = refl
 
 pub no-large : ¬ ReadsForms largeNoNumber
-no-large d = Option·none-ne-some outside (sym missed ∙ d 3 (omega arith) (filledIn (lineForm 3) outside) outside .1 (record { text = refl; suit = suited }))
+no-large d = Option·none-ne-some outside (sym missed ∙ d 3 (omega arith) (filledIn (formAt 3) outside) outside .1 (record { text = refl; suit = suited }))
 
 -- ---- a sample of document 01's listing
 

@@ -13,7 +13,7 @@ use lib.ListN.{length, getD, length-append}
 use Rattle.rules.specs.Tests.{all, within}
 use Rattle.rules.specs.Text.{isDigit, signedDecimal, Taken, takeNumber, takeSigned}
 use Rattle.rules.specs.Forms.{numberMark, signedMark, sheetForms, sampleForm, andThen, onTaken, onByte, numbersOf}
-use Rattle.formats.specs.Marks.{isMark, marks, takeMarked, numberThen, filledIn, fits, fitsThen, suits, IsLine, lineForms, lineForm, ReadsForms}
+use Rattle.formats.specs.Marks.{isMark, marks, takeMarked, numberThen, filledIn, fits, fitsThen, suits, IsLine, forms, formAt, ReadsForms}
 use Rattle.basics.proofs.Bools.{both}
 use Rattle.formats.proofs.Digits.{NoDigit, empty, other}
 use Rattle.formats.proofs.Numbers.{decimal-length, marked-written, written-marked}
@@ -139,14 +139,14 @@ apart-at [] i e = refl
 apart-at (form ∷ forms) zero e = both (separated form) (all (map separated forms)) e .0
 apart-at (form ∷ forms) (suc i) e = apart-at forms i (both (separated form) (all (map separated forms)) e .1)
 
-all-apart : all (map separated lineForms) ≡ true
-unfolding all within lineForms sheetForms sampleForm separated
+all-apart : all (map separated forms) ≡ true
+unfolding all within forms sheetForms sampleForm separated
 all-apart = refl
 
 pub forms-read : ReadsForms numbersOf
 forms-read i h line ns = (
-  line-written (lineForm i) line ns,
-  λ l. ap (numbersOf (lineForm i)) (l .text) ∙ written-read (lineForm i) ns (apart-at lineForms i all-apart) (l .suit),
+  line-written (formAt i) line ns,
+  λ l. ap (numbersOf (formAt i)) (l .text) ∙ written-read (formAt i) ns (apart-at forms i all-apart) (l .suit),
 )
 
 -- ---- how many numbers a form has, and how long its lines are

@@ -61,12 +61,13 @@ pub record IsLine (form line : List ℕ) (ns : List ℤ) : Type 0 where
   pub suit : suits form ns ≡ true
 
 -- the fourteen forms: the sheet's thirteen, and the sample's
-unfoldable pub lineForms : List (List ℕ)
-lineForms = sheetForms ++ (sampleForm ∷ [])
+unfoldable pub forms : List (List ℕ)
+forms = sheetForms ++ (sampleForm ∷ [])
 
-abbrev pub lineForm : ℕ → List ℕ
-lineForm i = getD lineForms i []
+-- a form by its number: the sheet's lines from 0, then the sample line
+abbrev pub formAt : ℕ → List ℕ
+formAt i = getD forms i []
 
 -- what is asked of a reading of lines by their forms: it finds numbers exactly in the lines that are the form with these numbers
 abbrev pub ReadsForms : (List ℕ → List ℕ → Option (List ℤ)) → Type 0
-ReadsForms read = (i : ℕ) → i < 14 → (line : List ℕ) (ns : List ℤ) → (read (lineForm i) line ≡ some ns) ↔ IsLine (lineForm i) line ns
+ReadsForms read = (i : ℕ) → i < 14 → (line : List ℕ) (ns : List ℤ) → (read (formAt i) line ≡ some ns) ↔ IsLine (formAt i) line ns

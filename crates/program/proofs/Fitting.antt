@@ -14,7 +14,7 @@ use Rattle.rules.specs.Transcripts.{inputEnd}
 use Rattle.rules.specs.declared.Settings.{Settings}
 use Rattle.rules.specs.declared.SettingsCheck.{SettingsCheck}
 use Rattle.basics.proofs.Bools.{both}
-use Rattle.text.specs.Forms.{formAt}
+use Rattle.formats.specs.Marks.{formAt}
 use Rattle.sheet.specs.Storing.{onLine}
 use Rattle.program.specs.States.{isDone, readsSheet, stopped, sensible, readState, Fit}
 use Rattle.program.specs.Saying.{numbersIn, onCheck, sheetLine, sampleLine, said}

@@ -15,7 +15,7 @@ use Rattle.rules.specs.Text.{feed, firstLine, hasFeed, afterLine}
 use Rattle.rules.specs.Transcripts.{Line, ended, unended, linesIn}
 use Rattle.rules.specs.declared.Settings.{Settings}
 use Rattle.rules.specs.declared.SettingsCheck.{SettingsCheck}
-use Rattle.text.specs.Forms.{forms, formAt}
+use Rattle.formats.specs.Marks.{forms, formAt}
 use Rattle.text.proofs.Made.{too-long}
 use Rattle.sheet.specs.Storing.{onLine}
 use borrow.Author.Tests.{ltb-true}

@@ -15,7 +15,7 @@ use Rattle.rules.specs.declared.Settings.{Settings}
 use Rattle.rules.specs.declared.Refusal.the-variants.{Form, Sample}
 use Rattle.rules.specs.declared.SettingsCheck.{SettingsCheck}
 use Rattle.rules.specs.declared.Stepped.{Stepped}
-use Rattle.text.specs.Forms.{formAt}
+use Rattle.formats.specs.Marks.{formAt}
 use Rattle.sheet.specs.Storing.{onLine}
 use Rattle.sheet.specs.declared.LineRead.{LineRead}
 use Rattle.program.specs.States.{isDone, readsSheet, stopped}

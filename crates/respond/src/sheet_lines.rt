@@ -4,7 +4,7 @@ ghost use Prim.Native.Nat.{ℕ, _+_, _<_};
 ghost use lib.ListN.{length};
 ghost use Rattle.rules.specs.declared.Refusal.{Refusal};
 ghost use Rattle.rules.specs.declared.SettingsCheck.{SettingsCheck};
-ghost use Rattle.text.specs.Forms.{formAt};
+ghost use Rattle.formats.specs.Marks.{formAt};
 ghost use Rattle.sheet.specs.Storing.{onLine};
 ghost use Rattle.program.specs.States.{Fit};
 ghost use Rattle.program.specs.Saying.{numbersIn, phaseAfter, sheetLine};

@@ -23,7 +23,7 @@ use Rattle.formats.proofs.Forms.{line-written}
 use Rattle.settings.specs.Rows.{rowAt}
 use Rattle.settings.specs.Lines.{lineAt, lineFound}
 use Rattle.settings.proofs.Steps.{line-passes, line-refuses}
-use Rattle.text.specs.Forms.{forms, formAt}
+use Rattle.formats.specs.Marks.{forms, formAt}
 use Rattle.text.specs.Places.{padded}
 use borrow.Author.Tests.{lt-ltb, le-ltb}
 use Rattle.text.proofs.Lines.{line-after, line-take}

@@ -9,9 +9,8 @@ use lib.IntN.{ℤ, pos, negsuc}
 use lib.ListN.{getD, replicate, List·getD-append, List·getD-map, getD-replicate}
 use Rattle.rules.specs.Forms.{sheetForms, sampleForm}
 use Rattle.basics.proofs.Bools.{both}
-use Rattle.formats.specs.Marks.{fits, suits}
+use Rattle.formats.specs.Marks.{fits, suits, forms, formAt}
 use Rattle.formats.proofs.Rows.{marksOf, suits-marks}
-use Rattle.text.specs.Forms.{forms, formAt}
 
 abbrev varMarks : List ℕ
 varMarks = 35 ∷ 126 ∷ 35 ∷ 126 ∷ 35 ∷ 126 ∷ 35 ∷ 126 ∷ []

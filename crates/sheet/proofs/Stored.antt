@@ -14,10 +14,9 @@ use Rattle.rules.specs.Settings.{sheetLines, Pair, pair, noLimit, linesOf}
 use Rattle.rules.specs.Sheets.{pairs, settingsOf}
 use Rattle.rules.specs.declared.Limit.{Limit}
 use Rattle.rules.specs.declared.Settings.{Settings}
-use Rattle.formats.specs.Marks.{suits}
+use Rattle.formats.specs.Marks.{suits, formAt}
 use Rattle.settings.specs.Lines.{lineAt}
 use Rattle.settings.proofs.Sheet.{trip-at}
-use Rattle.text.specs.Forms.{formAt}
 use Rattle.text.specs.Places.{padded}
 use Rattle.sheet.specs.Storing.{limitIn, withNumbers}
 use Rattle.sheet.proofs.Shapes.{two-numbers, watt-numbers, var-numbers}

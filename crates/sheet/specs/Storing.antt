@@ -16,7 +16,7 @@ use Rattle.rules.specs.declared.Refusal.the-variants.{Form}
 use Rattle.rules.specs.declared.SettingsCheck.{SettingsCheck}
 use Rattle.settings.specs.Rows.{rowAt}
 use Rattle.settings.specs.Lines.{lineAt, lineFound}
-use Rattle.text.specs.Forms.{formAt}
+use Rattle.formats.specs.Marks.{formAt}
 use Rattle.text.specs.Places.{padded}
 use Rattle.sheet.specs.declared.LineRead.{LineRead}
 

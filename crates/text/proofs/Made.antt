@@ -14,10 +14,9 @@ use lib.ListN.{length, getD}
 use Rattle.rules.specs.Tests.{all, within}
 use Rattle.rules.specs.Text.{hasFeed}
 use Rattle.rules.specs.Forms.{sheetForms, sampleForm, numbersOf}
-use Rattle.formats.specs.Marks.{marks}
+use Rattle.formats.specs.Marks.{marks, forms, formAt}
 use Rattle.basics.proofs.Bools.{both}
 use Rattle.formats.proofs.Forms.{separated, line-written, written-length}
-use Rattle.text.specs.Forms.{forms, formAt}
 
 -- ---- one test for all forms
 

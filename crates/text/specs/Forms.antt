@@ -1,4 +1,4 @@
--- Spec 3.2, 10.2: the fourteen forms by number, and the numbers that a text begins with by a form.
+-- Spec 3.2, 10.2: where the forms stand in one table, and the numbers that a text begins with by a form.
 -- Assumes nothing.
 use mathlib.Core.Bool.{cond}
 use mathlib.Core.List.{List, [], _∷_, _++_}
@@ -6,17 +6,9 @@ use mathlib.Core.Option.{Option, none, some}
 use Prim.Native.Nat.{ℕ, _+_}
 use lib.Dec.{eqb}
 use lib.IntN.{ℤ}
-use lib.ListN.{length, getD}
+use lib.ListN.{length}
 use Rattle.rules.specs.Text.{Taken}
-use Rattle.rules.specs.Forms.{sheetForms, sampleForm}
 use Rattle.formats.specs.Marks.{isMark, takeMarked}
-
--- the sheet's lines from 0, and then the sample line
-unfoldable pub forms : List (List ℕ)
-forms = sheetForms ++ (sampleForm ∷ [])
-
-abbrev pub formAt : ℕ → List ℕ
-formAt i = getD forms i []
 
 -- lists, one after the other
 abbrev pub joined : List (List ℕ) → List ℕ

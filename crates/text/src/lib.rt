@@ -7,7 +7,8 @@ ghost use lib.IntN.{natAbs};
 ghost use lib.ListN.{length, take, drop};
 ghost use Rattle.rules.specs.Text.{firstLine, hasFeed};
 ghost use Rattle.rules.specs.Forms.{sampleForm, numbersOf};
-ghost use Rattle.text.specs.Forms.{formAt, takeForm};
+ghost use Rattle.formats.specs.Marks.{formAt};
+ghost use Rattle.text.specs.Forms.{takeForm};
 ghost use Rattle.text.specs.Places.{MatchAt};
 ghost use Rattle.text.specs.Lines.{numbersRead, sampleAt};
 

@@ -2,7 +2,8 @@
 // for a number, `~` for one that may have a minus, any other byte for itself.
 ghost use mathlib.Core.Path.{_≡_};
 ghost use Rattle.rules.specs.Forms.{sampleForm};
-ghost use Rattle.text.specs.Forms.{forms, joined, startsFrom};
+ghost use Rattle.formats.specs.Marks.{forms};
+ghost use Rattle.text.specs.Forms.{joined, startsFrom};
 
 const FORMS: [u8; 251] = *b"\
     (trip (uv1 # #))\

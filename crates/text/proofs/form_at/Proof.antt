@@ -1,7 +1,7 @@
 -- `text::form_at` meets its contract: the part of the table between two starts is the form.
 -- Assumes nothing.
 use Rattle.rules.specs.Forms.{sheetForms}
-use Rattle.text.specs.Forms.{forms}
+use Rattle.formats.specs.Marks.{forms}
 use Rattle.text.proofs.Cuts.{cut-begins, cut-ends, cut}
 use Rattle.text.proofs.Made.{made-at}
 use borrow.Author.Needs.{needs}

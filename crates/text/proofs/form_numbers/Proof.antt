@@ -1,7 +1,8 @@
 -- `text::form_numbers` meets its contract: a match that ends where the line does has the line's numbers.
 -- Assumes nothing.
 use mathlib.Core.Path.{_∙_, sym, ap}
-use Rattle.text.specs.Forms.{formAt, takeForm}
+use Rattle.formats.specs.Marks.{formAt}
+use Rattle.text.specs.Forms.{takeForm}
 use Rattle.text.specs.Lines.{numbersRead}
 use Rattle.text.proofs.Whole.{numbers-whole, match-whole, match-short}
 use borrow.Author.Needs.{needs}

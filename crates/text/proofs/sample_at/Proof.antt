@@ -4,7 +4,8 @@
 use mathlib.Core.Path.{refl}
 use Rattle.rules.specs.Forms.{sheetForms, sampleForm}
 use lib.ListN.{drop}
-use Rattle.text.specs.Forms.{forms, takeForm}
+use Rattle.formats.specs.Marks.{forms}
+use Rattle.text.specs.Forms.{takeForm}
 use Rattle.text.proofs.Samples.{at-feed, at-nothing, at-past, at-other, sample-found, sample-none}
 use Rattle.text.proofs.Made.{made-at}
 use borrow.Author.Needs.{needs}
