@@ -1,4 +1,4 @@
--- Spec 10.13: what `respond` makes of a state, a block of input and the size of a lent buffer.
+-- Spec 10.13, 10.14: what `respond` makes of a state, a block of input and the size of a lent buffer.
 -- Assumes nothing.
 use mathlib.Core.Bool.{Bool, true, cond, _||_}
 use mathlib.Core.List.{List, [], _∷_, _++_}

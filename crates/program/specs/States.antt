@@ -1,4 +1,4 @@
--- Spec 10.13: the program's state, where it begins, and how a lent one is read.
+-- Spec 10.13, 10.15: the program's state, where it begins, and how a lent one is read.
 -- Assumes nothing.
 use mathlib.Core.Path.{_≡_}
 use mathlib.Core.Bool.{Bool, true, false, cond, not, _&&_, _||_}
