@@ -9,13 +9,12 @@ use lib.ListN.{length, drop}
 use Rattle.rules.specs.Tests.{all}
 use Rattle.rules.specs.Sensing.{lastCode, sensed}
 use Rattle.rules.specs.Settings.{Pair, Row, rows, inRow, rising, linesOf, settingsCheck}
-use Rattle.rules.specs.Refusals.{settingsNumber, sensedNumber, answerNumber, savedNumber}
+use Rattle.rules.specs.Refusals.{settingsNumber, lineOf, sensedNumber, answerNumber, savedNumber}
 use Rattle.rules.specs.Samples.{Slice, Equipment, codeOf, frequency, permission, available, operatorLimit}
 use Rattle.rules.specs.Records.{stepOf}
 use Rattle.rules.specs.Images.{imageLength, saveCheck, savedInto}
 use Rattle.rules.specs.declared.Settings.{Settings}
 use Rattle.rules.specs.declared.Board.{Board}
-use Rattle.rules.specs.declared.SettingsCheck.{SettingsCheck}
 
 -- a row of the table of turned-away input: its number, and whether it is so of the input
 pub record Cause : Type 0 where
@@ -55,10 +54,6 @@ abbrev pub causeLine : ℕ → List Cause → ℕ
 causeLine n [] = 0
 causeLine n (c ∷ []) = 0
 causeLine n (c ∷ d ∷ cs) = cond (c .holds || d .holds) n (causeLine (suc n) cs)
-
-abbrev pub lineOf : SettingsCheck → ℕ
-lineOf SettingsCheck.Accepted = 0
-lineOf (SettingsCheck.Refused cause line) = line
 
 -- what is claimed of each public operation: its answer's number is that of the first cause, so it refuses with n exactly when n is the
 -- first cause and accepts input with none; and a refusal changes nothing

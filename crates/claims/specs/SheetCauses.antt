@@ -13,10 +13,10 @@ use Rattle.rules.specs.Tests.{all}
 use Rattle.rules.specs.Text.{firstLine, hasFeed, afterLine}
 use Rattle.rules.specs.Forms.{sheetForms, numbersOf}
 use Rattle.rules.specs.Settings.{Pair, Row, row, rows, inRow, rising}
-use Rattle.rules.specs.Refusals.{settingsNumber}
+use Rattle.rules.specs.Refusals.{settingsNumber, lineOf}
 use Rattle.rules.specs.Sheets.{pairs, settingsOf, readSheet, handedBack}
 use Rattle.rules.specs.declared.SettingsCheck.{SettingsCheck}
-use Rattle.claims.specs.FirstCause.{Cause, cause, first, lineOf}
+use Rattle.claims.specs.FirstCause.{Cause, cause, first}
 
 -- ---- a line of a text
 

@@ -12,7 +12,7 @@ use borrow.Author.Tests.{leb-true, leb-false, lt-ltb, le-ltb}
 use Rattle.rules.specs.Tests.{all, within}
 use Rattle.rules.specs.Sensing.{lastCode, voltage, sensed}
 use Rattle.rules.specs.Settings.{Pair, Row, rows, inRow, rising, checkFrom, linesOf, settingsCheck}
-use Rattle.rules.specs.Refusals.{refusalNumber, settingsNumber, sampleNumber, sensedNumber, answerNumber, savedNumber}
+use Rattle.rules.specs.Refusals.{refusalNumber, settingsNumber, lineOf, sampleNumber, sensedNumber, answerNumber, savedNumber}
 use Rattle.rules.specs.Samples.{Slice, Equipment, codeOf, frequency, permission, available, operatorLimit, unless, sampleCheck}
 use Rattle.rules.specs.Records.{onSample, onSettings, stepOf}
 use Rattle.rules.specs.Images.{image, imageLength, saveCheck, savedInto}
@@ -23,7 +23,7 @@ use Rattle.rules.specs.declared.Sensed.{Sensed}
 use Rattle.rules.specs.declared.Saved.{Saved}
 use Rattle.rules.specs.declared.SettingsCheck.{SettingsCheck}
 use Rattle.rules.specs.declared.SampleCheck.{SampleCheck}
-use Rattle.claims.specs.FirstCause.{Cause, cause, first, lineCauses, settingsCauses, sampleCauses, causeLine, lineOf, RefusesRightly}
+use Rattle.claims.specs.FirstCause.{Cause, cause, first, lineCauses, settingsCauses, sampleCauses, causeLine, RefusesRightly}
 use Rattle.laws.proofs.Images.{image-length}
 
 -- a number above a bound

@@ -18,12 +18,12 @@ use Rattle.rules.specs.Tests.{all}
 use Rattle.rules.specs.Text.{feed, firstLine, hasFeed, afterLine}
 use Rattle.rules.specs.Forms.{sheetForms, numbersOf}
 use Rattle.rules.specs.Settings.{Pair, Row, rows, inRow, rising, lineCheck}
-use Rattle.rules.specs.Refusals.{refusalNumber, settingsNumber}
+use Rattle.rules.specs.Refusals.{refusalNumber, settingsNumber, lineOf}
 use Rattle.rules.specs.Sheets.{SheetReading, pairs, settingsOf, refusedAt, onNumbers, readFrom, readSheet, partOf, handedBack}
 use Rattle.rules.specs.declared.Refusal.{Refusal}
 use Rattle.rules.specs.declared.Refusal.the-variants.{Form, Range, Rise, Code, Frequency, Permission, Power, Sample, Buffer}
 use Rattle.rules.specs.declared.SettingsCheck.{SettingsCheck}
-use Rattle.claims.specs.FirstCause.{first, lineOf}
+use Rattle.claims.specs.FirstCause.{first}
 use Rattle.claims.specs.SheetCauses.{fromLine, numbersBy, causesBy, pairsBy, causeAt, lineCause, linePairs, FirstCauseAt, SheetsRefusedRightly}
 
 -- ---- what follows the first line

@@ -26,6 +26,11 @@ abbrev pub settingsNumber : SettingsCheck → ℕ
 settingsNumber SettingsCheck.Accepted = 0
 settingsNumber (SettingsCheck.Refused cause line) = refusalNumber cause
 
+-- the sheet line of a refusal, from 1; 0 where the settings are accepted
+abbrev pub lineOf : SettingsCheck → ℕ
+lineOf SettingsCheck.Accepted = 0
+lineOf (SettingsCheck.Refused cause line) = line
+
 abbrev pub sampleNumber : SampleCheck → ℕ
 sampleNumber SampleCheck.Accepted = 0
 sampleNumber (SampleCheck.Refused cause) = refusalNumber cause

@@ -7,7 +7,7 @@ use native.Mathlib.Omega.{arith}
 use lib.ListN.{length}
 use Rattle.rules.specs.Samples.{Slice}
 use Rattle.rules.specs.Regions.{ourEquipment}
-use Rattle.rules.specs.Refusals.{refusalNumber, settingsNumber, answerNumber, savedNumber}
+use Rattle.rules.specs.Refusals.{refusalNumber, settingsNumber, lineOf, answerNumber, savedNumber}
 use Rattle.rules.specs.Records.{stepOf}
 use Rattle.rules.specs.Images.{saveCheck}
 use Rattle.rules.specs.Sheets.{readSheet, handedBack}
@@ -23,7 +23,7 @@ use Rattle.rules.specs.declared.Refusal.the-variants.{Form, Range, Rise, Code, 
 use Rattle.sheet.specs.Outcomes.{Gives}
 use Rattle.sheet.specs.declared.SheetOutcome.{SheetOutcome}
 use Rattle.saltdelta.specs.declared.SheetAnswer.{SheetAnswer}
-use Rattle.saltdelta.specs.Answers.{recordAfter, reportAfter, reportOr, stepNumber, sheetAnswer, lineOf, settingsAfter, settingsOr}
+use Rattle.saltdelta.specs.Answers.{recordAfter, reportAfter, reportOr, stepNumber, sheetAnswer, settingsAfter, settingsOr}
 
 -- a cause's number is small
 pub number-small : (cause : Refusal) → refusalNumber cause < 2 ^ 32

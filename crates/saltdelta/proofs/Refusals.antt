@@ -16,12 +16,11 @@ use Rattle.rules.specs.declared.Report.{Report}
 use Rattle.rules.specs.declared.Answer.{Answer}
 use Rattle.rules.specs.declared.Settings.{Settings}
 use Rattle.rules.specs.declared.SettingsCheck.{SettingsCheck}
-use Rattle.claims.specs.FirstCause as claims
 use Rattle.claims.specs.FirstCause.{first, settingsCauses, sampleCauses}
 use Rattle.claims.specs.SheetCauses.{FirstCauseAt}
 use Rattle.laws.proofs.FirstCause.{refuses-rightly}
 use Rattle.laws.proofs.SheetCauses.{sheets-refused-rightly}
-use Rattle.saltdelta.specs.Answers.{recordAfter, reportAfter, reportOr, stepNumber, sheetAnswer, lineOf, settingsAfter, settingsOr}
+use Rattle.saltdelta.specs.Answers.{recordAfter, reportAfter, reportOr, stepNumber, sheetAnswer, settingsAfter, settingsOr}
 
 -- ---- a step
 
@@ -44,14 +43,10 @@ module _ (b : Board) (s : Settings) (x : Slice) where
 
 -- ---- a sheet
 
-same-line : (c : SettingsCheck) → claims.lineOf c ≡ lineOf c
-same-line SettingsCheck.Accepted = refl
-same-line (SettingsCheck.Refused cause line) = refl
-
 module _ (s : List ℕ) where
   pub sheet-cause : (i n : ℕ) → 0 < n → ((sheetAnswer s .number ≡ n) × (sheetAnswer s .line ≡ i + 1)) ↔ FirstCauseAt s i n
   unfolding sheetAnswer
-  sheet-cause i n h = rw (← same-line (readSheet s .check)) (sheets-refused-rightly .refuses s i n h)
+  sheet-cause i n h = sheets-refused-rightly .refuses s i n h
 
   pub settings-kept : (before : Settings) → 0 < sheetAnswer s .number → settingsAfter before s ≡ before
   unfolding sheetAnswer settingsAfter

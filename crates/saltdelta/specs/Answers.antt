@@ -6,7 +6,7 @@ use Prim.Native.Nat.{ℕ}
 use lib.ListN as L
 use Rattle.rules.specs.Samples.{Slice}
 use Rattle.rules.specs.Regions.{ourEquipment}
-use Rattle.rules.specs.Refusals.{settingsNumber, answerNumber}
+use Rattle.rules.specs.Refusals.{settingsNumber, lineOf, answerNumber}
 use Rattle.rules.specs.Records.{stepOf}
 use Rattle.rules.specs.Sheets.{readSheet, handedBack}
 use Rattle.rules.specs.declared.Board.{Board}
@@ -35,11 +35,6 @@ unfoldable pub reportAfter : Report → Board → Settings → Slice → Report
 reportAfter before b s x = reportOr before (stepOf ourEquipment b s x .answer)
 
 -- ---- a sheet
-
--- the sheet line of a refusal, from 1; 0 where the sheet is accepted
-abbrev pub lineOf : SettingsCheck → ℕ
-lineOf SettingsCheck.Accepted = 0
-lineOf (SettingsCheck.Refused cause line) = line
 
 -- number and line, and the part handed back as its place and length in the caller's own bytes
 unfoldable pub sheetAnswer : List ℕ → SheetAnswer
