@@ -1,9 +1,11 @@
 -- What a call answers, from what the operation below it says.
 -- Assumes nothing.
-use mathlib.Core.Path.{_≡_, sym, ap, ap₂, _∙_}
+use mathlib.Core.Path.{_≡_, refl, sym, ap, ap₂, _∙_}
+use mathlib.Core.Bool.{not}
 use mathlib.Core.List.{List}
-use Prim.Native.Nat.{ℕ, _<_, _^_}
+use Prim.Native.Nat.{ℕ, zero, suc, _<_, _^_}
 use native.Mathlib.Omega.{arith}
+use lib.Dec.{T, T-not, not-T, eqb, eqb-refl, eqb→eq}
 use lib.ListN.{length}
 use Rattle.rules.specs.Samples.{Slice}
 use Rattle.rules.specs.Regions.{ourEquipment}
@@ -23,9 +25,10 @@ use Rattle.rules.specs.declared.Refusal.the-variants.{Form, Range, Rise, Code, 
 use Rattle.sheet.specs.Outcomes.{Gives}
 use Rattle.sheet.specs.declared.SheetOutcome.{SheetOutcome}
 use Rattle.saltdelta.specs.declared.SheetAnswer.{SheetAnswer}
-use Rattle.saltdelta.specs.Answers.{recordAfter, reportAfter, reportOr, stepNumber, sheetAnswer, settingsAfter, settingsOr}
+use Rattle.saltdelta.specs.Answers.{recordAfter, reportAfter, reportOr, noReport, stepNumber, sheetAnswer}
 
--- a cause's number is small
+-- a cause's number is small, and not 0
+
 pub number-small : (cause : Refusal) → refusalNumber cause < 2 ^ 32
 number-small Form = omega arith
 number-small Range = omega arith
@@ -37,19 +40,43 @@ number-small Power = omega arith
 number-small Sample = omega arith
 number-small Buffer = omega arith
 
+pub number-positive : (cause : Refusal) → 0 < refusalNumber cause
+number-positive Form = omega arith
+number-positive Range = omega arith
+number-positive Rise = omega arith
+number-positive Code = omega arith
+number-positive Frequency = omega arith
+number-positive Permission = omega arith
+number-positive Power = omega arith
+number-positive Sample = omega arith
+number-positive Buffer = omega arith
+
+-- how the test of a number against 0 comes out
+
+pub above-zero : (n : ℕ) → T (not (eqb n 0)) → 0 < n
+above-zero zero t = absurd (T-not (eqb 0 0) t (eqb-refl 0))
+above-zero (suc n) t = omega arith
+
+pub is-zero : (n : ℕ) → T (not (not (eqb n 0))) → n ≡ 0
+is-zero zero t = refl
+is-zero (suc n) t = absurd (T-not (not (eqb (suc n) 0)) t (not-T (eqb (suc n) 0) (λ h. omega (arith, eqb→eq (suc n) 0 h))))
+
 -- ---- a step
 
-module _ (b : Board) (s : Settings) (x : Slice) (before : Report) (t : Stepped) (e : t ≡ stepOf ourEquipment b s x) where
-  answers : (a : Answer) → t .answer ≡ a → (t .board ≡ recordAfter b s x) × (reportOr before a ≡ reportAfter before b s x) × (answerNumber a ≡ stepNumber b s x)
+module _ (b : Board) (s : Settings) (x : Slice) (t : Stepped) (e : t ≡ stepOf ourEquipment b s x) where
+  answers : (a : Answer) → t .answer ≡ a
+      → (t .board ≡ recordAfter b s x) × (reportOr noReport a ≡ reportAfter noReport b s x) × (answerNumber a ≡ stepNumber b s x)
   unfolding recordAfter reportAfter stepNumber
   answers a told =
       let answered : a ≡ stepOf ourEquipment b s x .answer = sym told ∙ ap (λ (u : Stepped). u .answer) e in
-      (ap (λ (u : Stepped). u .board) e, ap (reportOr before) answered, ap answerNumber answered)
+      (ap (λ (u : Stepped). u .board) e, ap (reportOr noReport) answered, ap answerNumber answered)
 
-  pub reported : (r : Report) → t .answer ≡ Answer.Reported r → (t .board ≡ recordAfter b s x) × (r ≡ reportAfter before b s x) × (0 ≡ stepNumber b s x)
+  pub reported : (r : Report) → t .answer ≡ Answer.Reported r
+      → (t .board ≡ recordAfter b s x) × (r ≡ reportAfter noReport b s x) × (0 ≡ stepNumber b s x)
   reported r told = answers (Answer.Reported r) told
 
-  pub refused : (cause : Refusal) (n : ℕ) → t .answer ≡ Answer.Refused cause → n ≡ refusalNumber cause → (t .board ≡ recordAfter b s x) × (before ≡ reportAfter before b s x) × (n ≡ stepNumber b s x)
+  pub refused : (cause : Refusal) (n : ℕ) → t .answer ≡ Answer.Refused cause → n ≡ refusalNumber cause
+      → (t .board ≡ recordAfter b s x) × (noReport ≡ reportAfter noReport b s x) × (n ≡ stepNumber b s x)
   refused cause n told numbered =
       let all = answers (Answer.Refused cause) told in
       (all .0, all .1, numbered ∙ all .2)
@@ -59,19 +86,19 @@ module _ (b : Board) (s : Settings) (x : Slice) (before : Report) (t : Stepped) 
 abbrev made : SettingsCheck → ℕ → List ℕ → SheetAnswer
 made check start part = record { number = settingsNumber check; line = lineOf check; start = start; length = length part }
 
-module _ (s : List ℕ) (before : Settings) (d : SheetOutcome) (e : Gives d (readSheet s)) (part : List ℕ) (h : part ≡ handedBack s) where
-  found : (check : SettingsCheck) → d .check ≡ check → (settingsOr before check (d .settings) ≡ settingsAfter before s) × (made check (d .start) part ≡ sheetAnswer s)
-  unfolding settingsAfter sheetAnswer
+module _ (s : List ℕ) (d : SheetOutcome) (e : Gives d (readSheet s)) (part : List ℕ) (h : part ≡ handedBack s) where
+  found : (check : SettingsCheck) → d .check ≡ check → (d .settings ≡ readSheet s .settings) × (made check (d .start) part ≡ sheetAnswer s)
+  unfolding sheetAnswer
   found check told =
       let checked : check ≡ readSheet s .check = sym told ∙ e .check in
-      (ap₂ (settingsOr before) checked (e .settings), ap (λ (k : SettingsCheck). made k (d .start) part) checked ∙ ap₂ (made (readSheet s .check)) (e .start) h)
+      (e .settings, ap (λ (k : SettingsCheck). made k (d .start) part) checked ∙ ap₂ (made (readSheet s .check)) (e .start) h)
 
   pub accepted : d .check ≡ SettingsCheck.Accepted
-      → (d .settings ≡ settingsAfter before s) × (record { number = 0; line = 0; start = d .start; length = length part } ≡ sheetAnswer s)
+      → (d .settings ≡ readSheet s .settings) × (record { number = 0; line = 0; start = d .start; length = length part } ≡ sheetAnswer s)
   accepted told = found SettingsCheck.Accepted told
 
   pub turned-away : (cause : Refusal) (line n : ℕ) → d .check ≡ SettingsCheck.Refused cause line → n ≡ refusalNumber cause
-      → (before ≡ settingsAfter before s) × (record { number = n; line = line; start = d .start; length = length part } ≡ sheetAnswer s)
+      → (d .settings ≡ readSheet s .settings) × (record { number = n; line = line; start = d .start; length = length part } ≡ sheetAnswer s)
   turned-away cause line n told numbered = rw numbered (found (SettingsCheck.Refused cause line) told)
 
 -- ---- a saving

@@ -2,3 +2,4 @@ pub mod Answering
 pub mod Data
 pub mod InPlace
 pub mod Refusals
+pub mod Storing

@@ -3,6 +3,7 @@
 -- Assumes nothing.
 use mathlib.Core.List.{List}
 use Prim.Native.Nat.{ℕ}
+use lib.IntN.{pos}
 use lib.ListN as L
 use Rattle.rules.specs.Samples.{Slice}
 use Rattle.rules.specs.Regions.{ourEquipment}
@@ -30,6 +31,10 @@ stepNumber b s x = answerNumber (stepOf ourEquipment b s x .answer)
 abbrev pub reportOr : Report → Answer → Report
 reportOr before (Answer.Reported report) = report
 reportOr before (Answer.Refused cause) = before
+
+-- the report of a refused call by value, which is stored nowhere
+abbrev pub noReport : Report
+noReport = record { status = 0; bits = 0; share = 0; watts = 0; vars = pos 0 }
 
 unfoldable pub reportAfter : Report → Board → Settings → Slice → Report
 reportAfter before b s x = reportOr before (stepOf ourEquipment b s x .answer)

@@ -1,10 +1,11 @@
 // The library for C and Rust: document 01's operations at a C boundary. include/saltdelta.h says what each number means and what a
-// caller owes. A refused call answers with document 01's number of its cause and leaves all lent memory as it was.
+// caller owes. A refused call answers with document 01's number of its cause and stores nothing: it returns before any store.
 ghost use mathlib.Core.Path.{_≡_};
 ghost use Rattle.rules.specs.Refusals.{refusalNumber, savedNumber};
 ghost use Rattle.rules.specs.Records.{fresh};
 ghost use Rattle.rules.specs.Images.{saveCheck, savedInto};
-ghost use Rattle.saltdelta.specs.Answers.{sheetAnswer, settingsAfter, recordAfter, reportAfter, stepNumber};
+ghost use Rattle.rules.specs.Sheets.{readSheet};
+ghost use Rattle.saltdelta.specs.Answers.{sheetAnswer, settingsAfter, recordAfter, reportAfter, noReport, stepNumber};
 use lines::refusal_number;
 use rules::Answer;
 use rules::Board;
@@ -37,7 +38,10 @@ pub extern "C" fn saltdelta_fresh() -> Board
 pub extern "C" fn saltdelta_read_sheet(settings: &mut Settings, bytes: &[u8]) -> SheetAnswer
     ensures { λ r. ⌜ (now (settings .exit) ≡ settingsAfter (now (settings .entry)) (now (bytes .entry))) × (r ≡ sheetAnswer (now (bytes .entry))) ⌝ }
 {
-    let next = read_over(*settings, bytes);
+    let next = sheet_call(bytes);
+    if next.answer.number != 0 {
+        return next.answer;
+    }
     *settings = next.settings;
     next.answer
 }
@@ -54,10 +58,13 @@ pub extern "C" fn saltdelta_step(
         × (now (report .exit) ≡ reportAfter (now (report .entry)) (now (board .entry)) (now (settings .entry)) (now (sample .entry)))
         × (r ≡ stepNumber (now (board .entry)) (now (settings .entry)) (now (sample .entry))) ⌝ }
 {
-    let next = step_over(*board, *settings, sample, *report);
+    let next = step_call(*board, *settings, sample);
+    if next.number != 0 {
+        return next.number;
+    }
     *board = next.board;
     *report = next.report;
-    next.number
+    0
 }
 
 // The lent record's image at the front of a lent buffer; a buffer under 45 bytes keeps every byte.
@@ -90,19 +97,19 @@ fn number_of(cause: Refusal) -> u32
     refusal_number(cause) as u32
 }
 
-// The sheet at the front of lent bytes, over the settings that stood there before.
-fn read_over(before: Settings, bytes: &[u8]) -> SheetCall
-    ensures { λ r. ⌜ (r .settings ≡ settingsAfter before (now (bytes .entry))) × (r .answer ≡ sheetAnswer (now (bytes .entry))) ⌝ }
+// The sheet at the front of lent bytes.
+fn sheet_call(bytes: &[u8]) -> SheetCall
+    ensures { λ r. ⌜ (r .settings ≡ readSheet (now (bytes .entry)) .settings) × (r .answer ≡ sheetAnswer (now (bytes .entry))) ⌝ }
 {
     let outcome = sheet::read(bytes);
     let check = outcome.check;
     let start = outcome.start;
-    let read = outcome.settings;
+    let settings = outcome.settings;
     let part = sheet::part_from(bytes, check, start);
     let length = part.len();
     match check {
         SettingsCheck::Accepted => SheetCall {
-            settings: read,
+            settings,
             answer: SheetAnswer {
                 number: 0,
                 line: 0,
@@ -111,7 +118,7 @@ fn read_over(before: Settings, bytes: &[u8]) -> SheetCall
             },
         },
         SettingsCheck::Refused(cause, line) => SheetCall {
-            settings: before,
+            settings,
             answer: SheetAnswer {
                 number: number_of(cause),
                 line: line as u32,
@@ -122,10 +129,10 @@ fn read_over(before: Settings, bytes: &[u8]) -> SheetCall
     }
 }
 
-// A step by value, over the report that stood there before.
-fn step_over(b: Board, s: Settings, sample: &[u32], before: Report) -> StepCall
+// A step by value; a refused one has a report of zeros, which nobody is given.
+fn step_call(b: Board, s: Settings, sample: &[u32]) -> StepCall
     ensures { λ r. ⌜ (r .board ≡ recordAfter b s (now (sample .entry)))
-        × (r .report ≡ reportAfter before b s (now (sample .entry)))
+        × (r .report ≡ reportAfter noReport b s (now (sample .entry)))
         × (r .number ≡ stepNumber b s (now (sample .entry))) ⌝ }
 {
     let next = service::step::step(b, s, sample);
@@ -139,7 +146,13 @@ fn step_over(b: Board, s: Settings, sample: &[u32], before: Report) -> StepCall
         },
         Answer::Refused(cause) => StepCall {
             board,
-            report: before,
+            report: Report {
+                status: 0,
+                bits: 0,
+                share: 0,
+                watts: 0,
+                vars: 0,
+            },
             number: number_of(cause),
         },
     }

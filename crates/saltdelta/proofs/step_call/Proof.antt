@@ -1,9 +1,9 @@
--- `saltdelta::step_over` meets its contract: the record, the report and the number of what the step says (`Answering.antt`).
+-- `saltdelta::step_call` meets its contract: the record, the report and the number of what the step says (`Answering.antt`).
 -- Assumes nothing.
 use Rattle.saltdelta.proofs.Answering.{reported, refused}
 use borrow.Author.Needs.{needs}
-use Rattle.saltdelta.proofs.step_over.Statement.{statement}
-use Rattle.saltdelta.proofs.step_over.Tie as tie
+use Rattle.saltdelta.proofs.step_call.Statement.{statement}
+use Rattle.saltdelta.proofs.step_call.Tie as tie
 
 step-requires : tie.Need-step-requires
 step-requires c κs = search needs
@@ -21,16 +21,16 @@ returns : tie.Need-returns
 returns c =
     let a = c .before .before .before .before .before .before .args in
     let t = c .before .before .before .before .step in
-    reported (a .b) (a .s) _ (a .before) (t .result) (t .ensures) _ (c .before .answer .given .1)
+    reported (a .b) (a .s) _ (t .result) (t .ensures) _ (c .before .answer .given .1)
 
 returns-2 : tie.Need-returns-2
 returns-2 c =
     let a = c .before .before .before .before .before .before .before .args in
     let t = c .before .before .before .before .before .step in
-    refused (a .b) (a .s) _ (a .before) (t .result) (t .ensures) _ _ (c .before .before .answer2 .given .1) (c .number-of .ensures)
+    refused (a .b) (a .s) _ (t .result) (t .ensures) _ _ (c .before .before .answer2 .given .1) (c .number-of .ensures)
 
-pub step-over-spec : {M : Type 1} → statement M
-step-over-spec =
+pub step-call-spec : {M : Type 1} → statement M
+step-call-spec =
     tie.close
     (tie.spec
     step-requires

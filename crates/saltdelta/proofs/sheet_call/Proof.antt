@@ -1,10 +1,10 @@
--- `saltdelta::read_over` meets its contract: the settings and the answer of what reading the sheet says (`Answering.antt`).
+-- `saltdelta::sheet_call` meets its contract: the settings and the answer of what reading the sheet says (`Answering.antt`).
 -- Assumes nothing.
 use Rattle.sheet.proofs.HandedBack.{handed-back}
 use Rattle.saltdelta.proofs.Answering.{accepted, turned-away}
 use borrow.Author.Needs.{needs}
-use Rattle.saltdelta.proofs.read_over.Statement.{statement}
-use Rattle.saltdelta.proofs.read_over.Tie as tie
+use Rattle.saltdelta.proofs.sheet_call.Statement.{statement}
+use Rattle.saltdelta.proofs.sheet_call.Tie as tie
 
 read-requires : tie.Need-read-requires
 read-requires c κs = search needs
@@ -21,8 +21,8 @@ enum-known-check c = search needs
 number-of-requires : tie.Need-number-of-requires
 number-of-requires c κs = search needs
 
-cast-t14 : tie.Need-cast-t14
-cast-t14 c = search needs
+cast-t13 : tie.Need-cast-t13
+cast-t13 c = search needs
 
 returns : tie.Need-returns
 returns c =
@@ -30,7 +30,7 @@ returns c =
     let d = c .before .before .before .before .read in
     let p = c .before .before .part-from in
     let part = handed-back (a .bytes) (p .result) (d .result .check) (d .result .start) (d .ensures .0 .check) (d .ensures .0 .start) (d .ensures .1) (p .ensures) in
-    accepted _ (a .before) (d .result) (d .ensures .0) _ (part .bytes) (c .enum-told .given .1)
+    accepted _ (d .result) (d .ensures .0) _ (part .bytes) (c .enum-told .given .1)
 
 returns-2 : tie.Need-returns-2
 returns-2 c =
@@ -38,10 +38,10 @@ returns-2 c =
     let d = c .before .before .before .before .before .before .read in
     let p = c .before .before .before .before .part-from in
     let part = handed-back (a .bytes) (p .result) (d .result .check) (d .result .start) (d .ensures .0 .check) (d .ensures .0 .start) (d .ensures .1) (p .ensures) in
-    turned-away _ (a .before) (d .result) (d .ensures .0) _ (part .bytes) _ _ _ (c .before .before .check .given .1) (c .number-of .ensures)
+    turned-away _ (d .result) (d .ensures .0) _ (part .bytes) _ _ _ (c .before .before .check .given .1) (c .number-of .ensures)
 
-pub read-over-spec : {M : Type 1} → statement M
-read-over-spec =
+pub sheet-call-spec : {M : Type 1} → statement M
+sheet-call-spec =
     tie.close
     (tie.spec
     read-requires
@@ -49,6 +49,6 @@ read-over-spec =
     enum-told
     enum-known-check
     number-of-requires
-    cast-t14
+    cast-t13
     returns
     returns-2)
