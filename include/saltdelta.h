@@ -22,7 +22,8 @@
  *     9  image buffer under 45 bytes
  *
  * A sheet's lines are checked in order, each for 1, 2, 3; a step for 2 and 3 in sheet order, then for 8, 4, 5, 6, 7. A refused call
- * leaves all lent memory as it was (of a struct: its fields; bytes of padding may change).
+ * writes nothing at all: every byte that was lent to it stays as it was, of a struct its bytes of padding too. A call that is not refused
+ * writes all fields of what it writes, and its bytes of padding may change.
  *
  * WHAT THE CALLER OWES, as for references in Rust; nothing else is asked, and nothing tests it:
  *

@@ -1,6 +1,7 @@
 #!/usr/bin/env bash
 # The library: libsaltdelta.a is made, proofs checked, and called from C and from Rust; both are held against the comparison program.
-# A pass is a case: a run of calls that all agree with it (a board's life, or a hundred calls), or a sheet that C reads as document 01 says.
+# A pass is a case: a run of calls that all agree with it (a board's life, or a hundred calls), a sheet that C reads as document 01 says, or
+# a refused call of C's that writes no byte of what is lent to it, padding included. Rust's calls are held to that too.
 set -u
 cd "$(dirname "$0")/.." || exit 2
 out=target/library
@@ -26,8 +27,8 @@ add() {
     failed=$((failed + ${counts#* }))
 }
 
-"$out/check-c" "$out/calls" "$out/answers" > "$out/c-sheets.log" || echo "check-c ends with $?"
-add "$out/c-sheets.log" "C, sheets"
+"$out/check-c" "$out/calls" "$out/answers" > "$out/c-own.log" || echo "check-c ends with $?"
+add "$out/c-own.log" "C, sheets and refused calls"
 "$out/comparison" calls < "$out/calls" > "$out/expected"
 # a case is the calls from one `fresh` to the next
 paste -d '\t' "$out/calls" "$out/expected" "$out/answers" | awk -F '\t' '

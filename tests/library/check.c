@@ -1,6 +1,7 @@
 /* The library from C. It makes calls from a fixed seed and writes them to one file and what the library answers to another, both in the
- * form of the comparison program's mode `calls`; tests/library.sh holds the answers against that program's. What that mode does not have,
- * sheets, is checked here: document 01's sheet and its examples of refused ones. It prints 'N passed, M failed' for these. */
+ * form of the comparison program's mode `calls`; tests/library.sh holds the answers against that program's. What that mode does not have
+ * is checked here: document 01's sheet and its examples of refused ones, and that a refused call writes no byte of what is lent to it,
+ * bytes of padding among them. It prints 'N passed, M failed' for these. */
 #include <inttypes.h>
 #include <stdio.h>
 #include <string.h>
@@ -119,19 +120,22 @@ static void expect(int right, const char *what) {
     }
 }
 
-/* Line `at` is refused with `number`, handed back whole, and the settings stay. */
+/* Line `at` is refused with `number`, handed back whole, and every byte of the settings and of the sheet stays. */
 static void refused(size_t at, const char *line, uint32_t number) {
-    char text[1024];
+    char text[1024], text_before[1024];
     size_t length = write_sheet(text, at, line);
-    saltdelta_settings before, after;
-    saltdelta_sheet found;
-    memset(&before, 0x5A, sizeof before);
-    after = before;
-    found = saltdelta_read_sheet(&after, (const uint8_t *)text, length);
-    expect(found.number == number && found.line == at && found.length == strlen(line)
-               && memcmp(text + found.start, line, found.length) == 0 && text[found.start + found.length] == '\n'
-               && memcmp(&before, &after, sizeof before) == 0,
-           line);
+    for (int pattern = 0; pattern < 256; pattern += 85) {
+        saltdelta_settings before, after;
+        saltdelta_sheet found;
+        memset(&before, pattern, sizeof before);
+        memset(&after, pattern, sizeof after);
+        memcpy(text_before, text, length);
+        found = saltdelta_read_sheet(&after, (const uint8_t *)text, length);
+        expect(found.number == number && found.line == at && found.length == strlen(line)
+                   && memcmp(text + found.start, line, found.length) == 0 && text[found.start + found.length] == '\n'
+                   && memcmp(&before, &after, sizeof before) == 0 && memcmp(text_before, text, length) == 0,
+               line);
+    }
 }
 
 static void sheets(void) {
@@ -161,6 +165,108 @@ static void sheets(void) {
     refused(12, "(var (9200 -0) (9800 0) (10200 0) (10800 -4400))", SALTDELTA_FORM);
     refused(12, "(var (9800 4400) (9200 0) (10200 0) (10800 -4400))", SALTDELTA_RISE);
     refused(13, "(watt (11000 10000) (11000 0))", SALTDELTA_RISE);
+}
+
+/* ---- refused calls, byte for byte */
+
+static saltdelta_settings settings_of_sheet(void) {
+    char text[1024];
+    saltdelta_settings s;
+    memset(&s, 0, sizeof s);
+    saltdelta_read_sheet(&s, (const uint8_t *)text, write_sheet(text, 0, ""));
+    return s;
+}
+
+/* What is lent to a step, with a pattern in every byte, those of padding too, and then fields of its own. The copies that are compared
+ * are made with memcpy, which copies padding; an assignment need not. */
+typedef struct {
+    saltdelta_board board;
+    saltdelta_settings settings;
+    saltdelta_report report;
+    uint32_t sample[9];
+} lent_step;
+
+static void fill(lent_step *lent, int pattern, const saltdelta_settings *s) {
+    static const uint32_t steady[7] = {1000, 1010, 990, 60000, 1, 10000, 9000};
+    memset(lent, pattern, sizeof *lent);
+    lent->board.status = SALTDELTA_CONTINUOUS;
+    for (int i = 0; i < 9; i++)
+        lent->board.counters[i] = (uint32_t)i;
+    lent->board.ramp = 100;
+    lent->board.watts = 5000;
+    lent->board.vars = -5;
+    lent->report.status = 77;
+    lent->report.bits = 77;
+    lent->report.share = 77;
+    lent->report.watts = 77;
+    lent->report.vars = -77;
+    memcpy(&lent->settings, s, sizeof *s);
+    memcpy(lent->sample, steady, sizeof steady);
+}
+
+/* A step that is refused with `number` writes no byte; one that is not refused (number 0) writes the report. */
+static void step_refused(lent_step *lent, size_t count, uint32_t number, const char *what) {
+    lent_step before;
+    uint32_t found;
+    memcpy(&before, lent, sizeof before);
+    found = saltdelta_step(&lent->board, &lent->settings, lent->sample, count, &lent->report);
+    expect(found == number && (memcmp(&before, lent, sizeof before) == 0) == (number != SALTDELTA_ACCEPTED), what);
+}
+
+static void steps_refused(void) {
+    const saltdelta_settings s = settings_of_sheet();
+    for (int pattern = 0; pattern < 256; pattern += 85) {
+        lent_step lent;
+        fill(&lent, pattern, &s);
+        step_refused(&lent, 7, SALTDELTA_ACCEPTED, "a step that is accepted");
+        for (int i = 0; i < 8; i++) {
+            fill(&lent, pattern, &s);
+            lent.settings.trip[i].clearing = 100001;
+            step_refused(&lent, 7, SALTDELTA_RANGE, "a clearing time out of range");
+        }
+        fill(&lent, pattern, &s);
+        lent.settings.var[3].volts = lent.settings.var[2].volts;
+        step_refused(&lent, 7, SALTDELTA_RISE, "voltages that do not rise");
+        for (size_t count = 0; count < 10; count++) {
+            fill(&lent, pattern, &s);
+            if (count != 7)
+                step_refused(&lent, count, SALTDELTA_SAMPLE, "another count than seven");
+        }
+        for (int i = 0; i < 3; i++) {
+            fill(&lent, pattern, &s);
+            lent.sample[i] = 4096;
+            step_refused(&lent, 7, SALTDELTA_CODE, "a code above 4095");
+        }
+        fill(&lent, pattern, &s);
+        lent.sample[3] = 39999;
+        step_refused(&lent, 7, SALTDELTA_FREQUENCY, "a frequency under 40000");
+        fill(&lent, pattern, &s);
+        lent.sample[3] = 80001;
+        step_refused(&lent, 7, SALTDELTA_FREQUENCY, "a frequency over 80000");
+        fill(&lent, pattern, &s);
+        lent.sample[4] = 2;
+        step_refused(&lent, 7, SALTDELTA_PERMISSION, "a permission of 2");
+        for (int i = 5; i < 7; i++) {
+            fill(&lent, pattern, &s);
+            lent.sample[i] = 10001;
+            step_refused(&lent, 7, SALTDELTA_POWER, "a power above 10000");
+        }
+    }
+}
+
+/* A saving that is refused writes no byte of the buffer, and none of the record. */
+static void saves_refused(void) {
+    for (size_t length = 0; length < SALTDELTA_IMAGE; length++) {
+        uint8_t buffer[SALTDELTA_IMAGE], before[SALTDELTA_IMAGE];
+        saltdelta_board board, board_before;
+        memset(buffer, 0x5A, sizeof buffer);
+        memset(before, 0x5A, sizeof before);
+        memset(&board, 0xA5, sizeof board);
+        memset(&board_before, 0xA5, sizeof board_before);
+        expect(saltdelta_save(&board, buffer, length) == SALTDELTA_BUFFER && memcmp(buffer, before, sizeof buffer) == 0
+                   && memcmp(&board, &board_before, sizeof board) == 0,
+               "a buffer under 45 bytes");
+    }
 }
 
 /* ---- boards from fresh, and records of any kind */
@@ -209,6 +315,8 @@ int main(int argc, char **argv) {
     if (argc != 3 || !(calls = fopen(argv[1], "w")) || !(answers = fopen(argv[2], "w")))
         return 2;
     sheets();
+    steps_refused();
+    saves_refused();
     for (int i = 0; i < 1000; i++) {
         saltdelta_board b = saltdelta_fresh();
         saltdelta_settings s = settings_read();

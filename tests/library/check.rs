@@ -1,7 +1,8 @@
 //! The library from Rust: target/staticlib/libsaltdelta.a against the comparison program, the same calls to both.
 //!
-//! Every call's number, and all memory lent to it, refused calls' too, must be the comparison program's. The calls are made from fixed
-//! seeds. The last line is 'N passed, M failed', in cases: some hundred calls each, which all agree or not.
+//! Every call's number, and all memory lent to it, refused calls' too, must be the comparison program's; of what is lent to a refused
+//! call every byte must stay, those of padding too. The calls are made from fixed seeds. The last line is 'N passed, M failed', in cases:
+//! some hundred calls each, which all agree or not.
 
 #[allow(dead_code)]
 #[path = "../../comparison/board.rs"]
@@ -10,6 +11,9 @@ mod library;
 
 use comparison as other;
 use library::{Board, Limit, Point, Report, Settings, Sheet, Span};
+use std::marker::PhantomData;
+use std::mem::size_of;
+use std::ptr::addr_of_mut;
 
 // ---- made numbers
 
@@ -214,6 +218,57 @@ fn report_of(r: &other::Report) -> Report {
     Report { status: r.status, bits, share: r.share, watts: r.watts, vars: r.vars }
 }
 
+// ---- memory that is lent byte for byte
+
+/// Room for a T, aligned to 8, with a pattern in every byte before its fields are written: bytes of padding keep the pattern.
+struct Lent<T> {
+    words: Vec<u64>,
+    of: PhantomData<T>,
+}
+
+impl<T> Lent<T> {
+    /// `put` writes the fields, one by one where T has padding.
+    fn new(pattern: u8, put: impl FnOnce(*mut T)) -> Lent<T> {
+        let words = vec![u64::from_ne_bytes([pattern; 8]); size_of::<T>().div_ceil(8)];
+        let mut lent = Lent { words, of: PhantomData };
+        put(lent.words.as_mut_ptr().cast());
+        lent
+    }
+
+    fn get(&mut self) -> &mut T {
+        unsafe { &mut *self.words.as_mut_ptr().cast() }
+    }
+
+    fn bytes(&self) -> Vec<u8> {
+        unsafe { std::slice::from_raw_parts(self.words.as_ptr().cast(), size_of::<T>()) }.to_vec()
+    }
+}
+
+fn lent_board(pattern: u8, b: &Board) -> Lent<Board> {
+    Lent::new(pattern, |p: *mut Board| unsafe {
+        addr_of_mut!((*p).status).write(b.status);
+        addr_of_mut!((*p).counters).write(b.counters);
+        addr_of_mut!((*p).ramp).write(b.ramp);
+        addr_of_mut!((*p).watts).write(b.watts);
+        addr_of_mut!((*p).vars).write(b.vars);
+    })
+}
+
+fn lent_report(pattern: u8, r: &Report) -> Lent<Report> {
+    Lent::new(pattern, |p: *mut Report| unsafe {
+        addr_of_mut!((*p).status).write(r.status);
+        addr_of_mut!((*p).bits).write(r.bits);
+        addr_of_mut!((*p).share).write(r.share);
+        addr_of_mut!((*p).watts).write(r.watts);
+        addr_of_mut!((*p).vars).write(r.vars);
+    })
+}
+
+/// Settings have no padding.
+fn lent_settings(pattern: u8, s: &Settings) -> Lent<Settings> {
+    Lent::new(pattern, |p: *mut Settings| unsafe { p.write(*s) })
+}
+
 // ---- the comparisons: each makes one call to both and says whether they agree
 
 #[derive(Default)]
@@ -262,19 +317,29 @@ fn compare_step(tally: &mut Tally, board: &mut Board, settings: &Settings, sampl
         Ok(r) => (0, report_of(&r)),
         Err(n) => (u32::from(n), *report),
     };
-    let found = library::step(board, settings, sample, report);
-    let same = found == number && other_record(board) == record && *report == reported && *settings == lent.1;
+    let pattern = tally.calls as u8;
+    let (mut b, mut s, mut r) = (lent_board(pattern, board), lent_settings(pattern, settings), lent_report(pattern, report));
+    let before = (b.bytes(), s.bytes(), r.bytes());
+    let found = library::step(b.get(), s.get(), sample, r.get());
+    let untouched = b.bytes() == before.0 && r.bytes() == before.2;
+    (*board, *report) = (*b.get(), *r.get());
+    let same = found == number
+        && other_record(board) == record
+        && *report == reported
+        && s.bytes() == before.1
+        && (found == 0 || untouched);
     tally.call(same, || format!("step of {:?} with {:?}: {} {:?} {:?}, not {} {:?} {:?}", lent, sample, found, board, report, number, record, reported));
     found
 }
 
 fn compare_save(tally: &mut Tally, board: &Board, buffer: &mut [u8]) -> u32 {
-    let lent = *board;
     let mut bytes = buffer.to_vec();
     let number = other::save(&other_record(board), &mut bytes).map_or_else(u32::from, |()| 0);
-    let found = library::save(board, buffer);
-    let same = found == number && buffer == bytes && *board == lent;
-    tally.call(same, || format!("save of {:?}: {} {:?}, not {} {:?}", lent, found, buffer, number, bytes));
+    let mut b = lent_board(tally.calls as u8, board);
+    let before = b.bytes();
+    let found = library::save(b.get(), buffer);
+    let same = found == number && buffer == bytes && b.bytes() == before;
+    tally.call(same, || format!("save of {:?}: {} {:?}, not {} {:?}", board, found, buffer, number, bytes));
     found
 }
 
@@ -289,8 +354,11 @@ fn compare_sheet(tally: &mut Tally, settings: &mut Settings, bytes: &[u8]) -> u3
             (Sheet { number: number.into(), line: line_number as u32, start, length }, other_settings(settings))
         }
     };
-    let found = library::read_sheet(settings, bytes);
-    let same = found == expected && other_settings(settings) == after;
+    let mut s = lent_settings(tally.calls as u8, settings);
+    let before = s.bytes();
+    let found = library::read_sheet(s.get(), bytes);
+    *settings = *s.get();
+    let same = found == expected && other_settings(settings) == after && (found.number == 0 || s.bytes() == before);
     tally.call(same, || format!("sheet {:?}: {:?}, not {:?}", String::from_utf8_lossy(bytes), found, expected));
     found.number
 }
