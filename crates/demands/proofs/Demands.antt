@@ -8,12 +8,13 @@ use Rattle.laws.proofs.FirstCause.{refuses-rightly}
 use Rattle.laws.proofs.SheetCauses.{sheets-refused-rightly}
 use Rattle.laws.proofs.Demand2.{demand2, counter-rule}
 use Rattle.laws.proofs.Demand3.{demand3}
+use Rattle.laws.proofs.Alike.{step-alike}
 use Rattle.formats.proofs.Sheets.{sheet-read-back, sheet-written-out, one-reading, default-written}
 use Rattle.formats.proofs.Forms.{forms-read}
 use Rattle.formats.proofs.SampleLines.{samples-answered, one-answer}
 use Rattle.formats.proofs.Samples.{sample-reads-back, sample-written-out}
 use Rattle.program.proofs.Sessions.{transcript-law}
-use Rattle.demands.specs.Demands.{OurRefusals, OurSheetRefusals, OurTranscript, OurTripAndReturn, OurTwoHistories, SheetsReadBack, SheetsWrittenOut, OneSheetReading, DefaultSheetWritten, UnderAcceptedTexts, LinesOfForms, SampleLinesAnswered, OneSampleAnswer, AcceptedSamplesWritable, SampleLinesReadBack, SampleLinesWrittenOut, EveryCounter, SensingRule, StarredEdges, ShamsCaught, ShamImagesCaught, ShamReadingsCaught, AnyTripAndReturn, AnyTwoHistories, OurEquipmentSound}
+use Rattle.demands.specs.Demands.{OurRefusals, OurSheetRefusals, OurTranscript, OurTripAndReturn, OurTwoHistories, SheetsReadBack, SheetsWrittenOut, OneSheetReading, DefaultSheetWritten, UnderAcceptedTexts, LinesOfForms, SampleLinesAnswered, OneSampleAnswer, AcceptedSamplesWritable, SampleLinesReadBack, SampleLinesWrittenOut, EveryCounter, SensingRule, StarredEdges, ShamsCaught, ShamImagesCaught, ShamReadingsCaught, AnyTripAndReturn, AnyTwoHistories, OurEquipmentSound, AlikeEquipmentStepsAlike}
 use Rattle.demands.proofs.Edges.{edges-hold}
 use Rattle.demands.proofs.Writable.{accepted-writable}
 use Rattle.demands.proofs.Sound.{our-equipment-sound}
@@ -97,3 +98,6 @@ anyTwoHistories e sound = demand3 e sound
 
 pub ourEquipmentSound : OurEquipmentSound
 ourEquipmentSound = our-equipment-sound
+
+pub alikeEquipmentStepsAlike : AlikeEquipmentStepsAlike
+alikeEquipmentStepsAlike = step-alike

@@ -21,6 +21,7 @@ use Rattle.rules.specs.Settings.{settingsAccepted}
 use Rattle.rules.specs.Samples.{Slice, Equipment, sampleAccepted}
 use Rattle.rules.specs.Counters.{Rule}
 use Rattle.rules.specs.Regions.{ourEquipment}
+use Rattle.rules.specs.Records.{stepOf}
 use Rattle.rules.specs.History.{historyReport}
 use Rattle.rules.specs.Images.{savedInto}
 use Rattle.rules.specs.Forms.{numbersOf}
@@ -37,6 +38,7 @@ use Rattle.roots.specs.Root.{IsRoot}
 use Rattle.program.specs.Sessions.{TranscriptLaw}
 use Rattle.claims.specs.Calls.{Program, ruledBy}
 use Rattle.claims.specs.Sound.{Sound}
+use Rattle.claims.specs.Alike.{Alike}
 use Rattle.claims.specs.FirstCause.{RefusesRightly}
 use Rattle.claims.specs.SheetCauses.{SheetsRefusedRightly}
 use Rattle.claims.specs.TripAndReturn.{TripAndReturn, CounterRule, Demand2}
@@ -203,3 +205,8 @@ AnyTwoHistories = (e : Equipment) → Sound e → Demand3 e (ruledBy e)
 
 abbrev pub OurEquipmentSound : Type 0
 OurEquipmentSound = Sound ourEquipment
+
+-- Equipments with the same voltages for the codes up to 4095 and the same regions step alike: `Alike` in claims/specs/Alike.antt. So what a
+-- step does depends on a lent sensing table by its 4,096 voltages alone.
+abbrev pub AlikeEquipmentStepsAlike : Type 0
+AlikeEquipmentStepsAlike = (e f : Equipment) → Alike e f → (b : Board) (st : Settings) (x : Slice) → stepOf e b st x ≡ stepOf f b st x

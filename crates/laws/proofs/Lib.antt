@@ -11,5 +11,7 @@ pub mod Ramps
 pub mod Images
 pub mod Curves
 pub mod Demand3
+pub mod SameRules
+pub mod Alike
 pub mod FirstCause
 pub mod SheetCauses

@@ -7,21 +7,21 @@ use Prim.Native.Nat.{ℕ, zero, suc, _+_, _≤_, _<_, max}
 use lib.Dec.{ltb}
 use Rattle.rules.specs.Tests.{all, within}
 use Rattle.rules.specs.Settings.{settingsAccepted, limitAt}
-use Rattle.rules.specs.Samples.{Slice, frequency, permitted, available, operatorLimit, phase, lowest, highest}
+use Rattle.rules.specs.Samples.{Slice, Equipment, frequency, permitted, available, operatorLimit, phase, lowest, highest}
 use Rattle.rules.specs.Counters.{Rule}
-use Rattle.rules.specs.Regions.{ourEquipment, voltageRegion, frequencyRegion, worse}
+use Rattle.rules.specs.Regions.{voltageRegion, frequencyRegion, worse}
 use Rattle.rules.specs.declared.Region.{Region}
 use Rattle.rules.specs.declared.Region.the-variants.{Continuous}
 use Rattle.rules.specs.declared.Settings.{Settings}
 use Rattle.readings.specs.declared.reading.Reading.{Reading}
 
 -- lowest, highest and sum of the voltages, and the other numbers of a sample
-abbrev pub readingOf : Slice → Reading
-readingOf x =
+abbrev pub readingOf : Equipment → Slice → Reading
+readingOf e x =
     record {
-      low = lowest ourEquipment x;
-      high = highest ourEquipment x;
-      sum = phase ourEquipment x 0 + phase ourEquipment x 1 + phase ourEquipment x 2;
+      low = lowest e x;
+      high = highest e x;
+      sum = phase e x 0 + phase e x 1 + phase e x 2;
       frequency = frequency x;
       permit = permitted x;
       available = available x;
@@ -37,7 +37,7 @@ enters r s =
     ∷ within (s .hertz .low) (s .hertz .high) (r .frequency)
     ∷ [])
 
--- rule 3 on a reading
+-- rule 3 on a reading, by the Category III voltage regions
 abbrev pub regionAt : Reading → Region
 regionAt r = worse (voltageRegion (r .low)) (worse (voltageRegion (r .high)) (frequencyRegion (r .frequency)))
 

@@ -7,7 +7,7 @@ ghost use lib.Dec.{leb};
 ghost use Rattle.rules.specs.Tests.{all, within};
 ghost use Rattle.rules.specs.Sensing.{lastCode};
 ghost use Rattle.rules.specs.Samples.{sampleCheck, sampleAccepted};
-ghost use Rattle.sensing.specs.Tables.{IsTable};
+ghost use Rattle.rules.specs.Regions.{equippedWith};
 ghost use Rattle.readings.specs.Readings.{readingOf};
 use rules::Refusal;
 use rules::SampleCheck;
@@ -89,10 +89,10 @@ fn most(a: u32, b: u32) -> u32
     if a < b { b } else { a }
 }
 
-// The reading of an accepted slice, by the sensing table.
+// The reading of an accepted slice, by a lent sensing table.
 pub fn read(table: &[u16; 4096], x: &[u32]) -> Reading
-    requires { ⌜ (IsTable (now table)) × (sampleAccepted (now x) ≡ true) ⌝ }
-    ensures { λ r. ⌜ r ≡ readingOf (now (x .entry)) ⌝ }
+    requires { ⌜ sampleAccepted (now x) ≡ true ⌝ }
+    ensures { λ r. ⌜ r ≡ readingOf (equippedWith (now (table .entry))) (now (x .entry)) ⌝ }
 {
     let first = x[0];
     let second = x[1];

@@ -10,7 +10,7 @@ use borrow.Author.Tests.{lt-ltb, le-ltb, le-leb, leb-true}
 use lib.Dec.{ltb, leb}
 use lib.IntN.{ℤ}
 use lib.ListN.{length, length-append, drop}
-use Rattle.rules.specs.Regions.{ourEquipment}
+use Rattle.rules.specs.Samples.{Equipment}
 use Rattle.rules.specs.Text.{firstLine, hasFeed}
 use Rattle.rules.specs.Forms.{sampleForm, numbersOf}
 use Rattle.rules.specs.Transcripts.{linesIn, answerLine, onSampleNumbers}
@@ -83,8 +83,8 @@ sampled h b n long at =
 abbrev pub here : Handled → Board → ℕ → Bool → ℕ → ℕ → Handled
 here h b n long at w = record { state = sampled h b n long at; at = at; written = w }
 
-pub record Going (s d : List ℕ) (h : Handled) (d′ : List ℕ) (r : Handled) (going : Bool) : Type 0 where
-  pub carried : Carried s d h d′ r
+pub record Going (e : Equipment) (s d : List ℕ) (h : Handled) (d′ : List ℕ) (r : Handled) (going : Bool) : Type 0 where
+  pub carried : Carried e s d h d′ r
   pub stuck : going ≡ false → Stuck s d r
 
 sampled-self : (h : Handled) → h .state .phase ≡ 1 → sampled h (h .state .board) (h .state .line) (h .state .long) (h .at) ≡ h .state
@@ -93,9 +93,9 @@ sampled-self h p =
     let z : q .taken + (h .at - h .at) ≡ q .taken = omega arith in
     ap₂ (λ (a b : ℕ). record { phase = a; line = q .line; long = q .long; taken = b; settings = q .settings; board = q .board }) (sym p) z
 
-pub beginning : (s d : List ℕ) (h : Handled) → h .state .phase ≡ 1 → Fit (h .state) (length s - h .at) → h .at ≤ length s → h .written ≤ length d
-    → Going s d h d (here h (h .state .board) (h .state .line) (h .state .long) (h .at) (h .written)) true
-beginning s d h p fit inside room =
+pub beginning : (e : Equipment) (s d : List ℕ) (h : Handled) → h .state .phase ≡ 1 → Fit (h .state) (length s - h .at) → h .at ≤ length s → h .written ≤ length d
+    → Going e s d h d (here h (h .state .board) (h .state .line) (h .state .long) (h .at) (h .written)) true
+beginning e s d h p fit inside room =
     record {
       carried = record {
         stands = rw (sampled-self h p) (record { later = omega arith; inside = inside; taken = omega arith; fit = fit });
@@ -106,8 +106,8 @@ beginning s d h p fit inside room =
       stuck = λ e. absurd (false≢true (sym e));
     }
 
-module _ (s d : List ℕ) (h : Handled) (d′ : List ℕ) (b : Board) (n : ℕ) (long : Bool) (at w : ℕ)
-    (going : Going s d h d′ (here h b n long at w) true) (x : LineAt) (is : x ≡ lineAt long (drop at s) at) where
+module _ (e : Equipment) (s d : List ℕ) (h : Handled) (d′ : List ℕ) (b : Board) (n : ℕ) (long : Bool) (at w : ℕ)
+    (going : Going e s d h d′ (here h b n long at w) true) (x : LineAt) (is : x ≡ lineAt long (drop at s) at) where
   abbrev line : List ℕ
   line = firstLine (drop at s)
 
@@ -124,8 +124,8 @@ module _ (s d : List ℕ) (h : Handled) (d′ : List ℕ) (b : Board) (n : ℕ) 
       by false o = refl
 
   -- no line more, or no room for one
-  pub stops : (x .ended && leb lineRoom (length d′ - w)) ≡ false → Going s d h d′ (here h b n long at w) false
-  stops e = record { carried = going .carried; stuck = λ p busy room. sym ended-is ∙ by (x .ended) e room }
+  pub stops : (x .ended && leb lineRoom (length d′ - w)) ≡ false → Going e s d h d′ (here h b n long at w) false
+  stops full = record { carried = going .carried; stuck = λ p busy room. sym ended-is ∙ by (x .ended) full room }
     where
       by : (k : Bool) → (k && leb lineRoom (length d′ - w)) ≡ false → w + lineRoom ≤ length d → k ≡ false
       by false p room = refl
@@ -154,21 +154,21 @@ module _ (s d : List ℕ) (h : Handled) (d′ : List ℕ) (b : Board) (n : ℕ) 
         by none = refl
         by (some ns) = refl
 
-    answer-is : onSampleNumbers ourEquipment (h .state .settings) b (numbersIn long sampleForm line) ≡ answerTo b (h .state .settings) x
+    answer-is : onSampleNumbers e (h .state .settings) b (numbersIn long sampleForm line) ≡ answerTo e b (h .state .settings) x
     answer-is = rw line-is (by (numbersIn long sampleForm line))
       where
-        by : (o : Option (List ℤ)) → onSampleNumbers ourEquipment (h .state .settings) b o ≡ answerTo b (h .state .settings) (withNumbers (at + length line + 1) o)
+        by : (o : Option (List ℤ)) → onSampleNumbers e (h .state .settings) b o ≡ answerTo e b (h .state .settings) (withNumbers (at + length line + 1) o)
         by none = refl
         by (some ns) = refl
 
-    module _ (r : Stepped) (step : r ≡ answerTo b (h .state .settings) x) where
-      said-is : said ourEquipment q line ≡ record { state = sampled h (r .board) (n + 1) false (x .next); text = answerLine n (r .answer) }
+    module _ (r : Stepped) (step : r ≡ answerTo e b (h .state .settings) x) where
+      said-is : said e q line ≡ record { state = sampled h (r .board) (n + 1) false (x .next); text = answerLine n (r .answer) }
       unfolding said
       said-is =
           let t : h .state .taken + (at - h .at) + (length line + 1) ≡ h .state .taken + (x .next - h .at) = omega (arith, next-is, going .carried .stands .later) in
           rw (answer-is, ← step, t)
 
-      pub goes-on : (d″ : List ℕ) (w′ : ℕ) → Wrote d′ w d″ w′ (answerLine n (r .answer)) → Going s d h d″ (here h (r .board) (n + 1) false (x .next) w′) true
+      pub goes-on : (d″ : List ℕ) (w′ : ℕ) → Wrote d′ w d″ w′ (answerLine n (r .answer)) → Going e s d h d″ (here h (r .board) (n + 1) false (x .next) w′) true
       goes-on d″ w′ wrote =
           let c = going .carried in
           let new = answerLine n (r .answer) in
@@ -179,19 +179,19 @@ module _ (s d : List ℕ) (h : Handled) (d′ : List ℕ) (b : Board) (n : ℕ) 
               wrote = and-then (c .wrote) wrote;
               same = λ before l ends. c .same before l ends ∙ same-line before l ends;
             };
-            stuck = λ e. absurd (false≢true (sym e));
+            stuck = λ p. absurd (false≢true (sym p));
           }
         where
           stands : Stands s (h .state) (h .at) (sampled h (r .board) (n + 1) false (x .next)) (x .next)
           stands =
               subst (Stands s (h .state) (h .at) (sampled h (r .board) (n + 1) false (x .next))) (sym next-is)
-              (subst (λ (k : State). Stands s (h .state) (h .at) k (at + length line + 1)) (ap (λ (k : Said). k .state) said-is) (next-stands s (h .state) q (h .at) at fed refl (going .carried .stands)))
+              (subst (λ (k : State). Stands s (h .state) (h .at) k (at + length line + 1)) (ap (λ (k : Said). k .state) said-is) (next-stands e s (h .state) q (h .at) at fed refl (going .carried .stands)))
 
           same-line : (before : List ℕ) → length before ≡ h .written → (ends : Bool)
-              → handled ourEquipment ends (length d) (record { state = q; text = before ++ going .carried .text }) (linesIn (drop at s))
-              ≡ handled ourEquipment ends (length d) (record { state = sampled h (r .board) (n + 1) false (x .next); text = before ++ (going .carried .text ++ answerLine n (r .answer)) }) (linesIn (drop (x .next) s))
+              → handled e ends (length d) (record { state = q; text = before ++ going .carried .text }) (linesIn (drop at s))
+              ≡ handled e ends (length d) (record { state = sampled h (r .board) (n + 1) false (x .next); text = before ++ (going .carried .text ++ answerLine n (r .answer)) }) (linesIn (drop (x .next) s))
           same-line before l ends =
               let c = going .carried in
               let size : length (before ++ c .text) + lineRoom ≤ length d = omega (arith, length-append before (c .text), c .wrote .after, room, wrote-length (c .wrote)) in
-              handled-fed ourEquipment ends (length d) (record { state = q; text = before ++ c .text }) (drop at s) fed
+              handled-fed e ends (length d) (record { state = q; text = before ++ c .text }) (drop at s) fed
               ∙ rw (le-ltb (length d) (length (before ++ c .text) + lineRoom) size, said-is, after-place s at fed, ← next-is, append-assoc before (c .text) (answerLine n (r .answer)))

@@ -9,6 +9,7 @@ use borrow.Author.Tests.{lt-ltb, le-ltb, eq-eqb, eqb-true}
 use lib.Dec.{ltb, leb}
 use lib.ListN.{length, take, drop, length-drop}
 use lib.Seq.{drop-drop}
+use Rattle.rules.specs.Samples.{Equipment}
 use Rattle.rules.specs.Regions.{ourEquipment}
 use Rattle.rules.specs.Text.{firstLine, hasFeed, afterLine}
 use Rattle.rules.specs.Transcripts.{linesIn}
@@ -34,31 +35,31 @@ after-place s at f =
     line-after (drop at s) f ∙ drop-drop (length l + 1) at s ∙ ap (λ (n : ℕ). drop n s) same
 
 -- the state after the line at a place stands at the place after it
-pub next-stands : (s : List ℕ) (q r : State) (at₀ at : ℕ) → hasFeed (drop at s) ≡ true → isDone r ≡ false → Stands s q at₀ r at
-    → Stands s q at₀ (said ourEquipment r (firstLine (drop at s)) .state) (at + length (firstLine (drop at s)) + 1)
-next-stands s q r at₀ at f going st =
+pub next-stands : (e : Equipment) (s : List ℕ) (q r : State) (at₀ at : ℕ) → hasFeed (drop at s) ≡ true → isDone r ≡ false → Stands s q at₀ r at
+    → Stands s q at₀ (said e r (firstLine (drop at s)) .state) (at + length (firstLine (drop at s)) + 1)
+next-stands e s q r at₀ at f going st =
     let l = firstLine (drop at s) in
     let short : length l < length s - at = omega (arith, line-ended (drop at s) f, length-drop at s) in
     let left : length s - at - (length l + 1) ≡ length s - (at + length l + 1) = omega arith in
     record {
       later = omega (arith, st .later);
       inside = omega (arith, st .inside);
-      taken = omega (arith, said-taken ourEquipment r l going, st .taken, st .later);
-      fit = subst (Fit (said ourEquipment r l .state)) left (fit-said ourEquipment l going (st .fit) (omega arith));
+      taken = omega (arith, said-taken e r l going, st .taken, st .later);
+      fit = subst (Fit (said e r l .state)) left (fit-said e l going (st .fit) (omega arith));
     }
 
 -- ---- the loop's invariant: nothing is written yet, and what is said from here on is what was to be said
 
 pub record Going (q : State) (s : List ℕ) (state : State) (at : ℕ) : Type 0 where
   pub stands : Stands s q 0 state at
-  pub same : (size : ℕ) → lineRoom ≤ size → (ends : Bool)
-      → handled ourEquipment ends size (record { state = q; text = [] }) (linesIn s)
-      ≡ handled ourEquipment ends size (record { state = state; text = [] }) (linesIn (drop at s))
+  pub same : (e : Equipment) (size : ℕ) → lineRoom ≤ size → (ends : Bool)
+      → handled e ends size (record { state = q; text = [] }) (linesIn s)
+      ≡ handled e ends size (record { state = state; text = [] }) (linesIn (drop at s))
 
 pub beginning : (q : State) (s : List ℕ) → Fit q (length s) → Going q s q 0
 beginning q s fit =
     let all : length s ≡ length s - 0 = omega arith in
-    record { stands = record { later = omega arith; inside = omega arith; taken = omega arith; fit = subst (Fit q) all fit }; same = λ size h ends. refl }
+    record { stands = record { later = omega arith; inside = omega arith; taken = omega arith; fit = subst (Fit q) all fit }; same = λ e size h ends. refl }
 
 -- the line that `sheet_line` was lent
 pub line-lent : (s : List ℕ) (at end : ℕ) → end ≡ at + length (firstLine (drop at s)) → take (end - at) (drop at s) ≡ firstLine (drop at s)
@@ -89,23 +90,26 @@ module _ (q : State) (s : List ℕ) (state : State) (at end : ℕ) (going : Goin
     fed : hasFeed (drop at s) ≡ true
     fed = sym ended ∙ lt-ltb end (length s) h
 
-    said-is : said ourEquipment state (firstLine (drop at s)) ≡ record { state = next; text = checkText check }
+    said-is : (e : Equipment) → said e state (firstLine (drop at s)) ≡ record { state = next; text = checkText check }
     unfolding said
-    said-is = rw (busy, eq-eqb (state .phase) 0 sheet) (ap (sheetLine state) (sym (line-lent s at end place)) ∙ is)
+    said-is e = rw (busy, eq-eqb (state .phase) 0 sheet) (ap (sheetLine state) (sym (line-lent s at end place)) ∙ is)
 
+    -- no equipment has a part in a sheet's line, so any will do
     step-stands : Stands s q 0 next (end + 1)
     step-stands =
         let p : at + length (firstLine (drop at s)) + 1 ≡ end + 1 = omega arith in
-        subst (Stands s q 0 next) p (subst (λ (k : Said). Stands s q 0 (k .state) (at + length (firstLine (drop at s)) + 1)) said-is (next-stands s q state 0 at fed busy (going .stands)))
+        let e = ourEquipment in
+        let after = next-stands e s q state 0 at fed busy (going .stands) in
+        subst (Stands s q 0 next) p (subst (λ (k : Said). Stands s q 0 (k .state) (at + length (firstLine (drop at s)) + 1)) (said-is e) after)
 
-    step-same : (size : ℕ) → lineRoom ≤ size → (ends : Bool)
-        → handled ourEquipment ends size (record { state = q; text = [] }) (linesIn s)
-        ≡ handled ourEquipment ends size (record { state = next; text = checkText check }) (linesIn (drop (end + 1) s))
-    step-same size r ends =
+    step-same : (e : Equipment) (size : ℕ) → lineRoom ≤ size → (ends : Bool)
+        → handled e ends size (record { state = q; text = [] }) (linesIn s)
+        ≡ handled e ends size (record { state = next; text = checkText check }) (linesIn (drop (end + 1) s))
+    step-same e size r ends =
         let p : at + length (firstLine (drop at s)) + 1 ≡ end + 1 = omega arith in
-        going .same size r ends
-        ∙ handled-fed ourEquipment ends size (record { state = state; text = [] }) (drop at s) fed
-        ∙ rw (busy, le-ltb size lineRoom r, said-is, after-place s at fed, p)
+        going .same e size r ends
+        ∙ handled-fed e ends size (record { state = state; text = [] }) (drop at s) fed
+        ∙ rw (busy, le-ltb size lineRoom r, said-is e, after-place s at fed, p)
 
     pub refused : (cause : Refusal) (n : ℕ) → check ≡ SettingsCheck.Refused cause n → next .phase ≡ 2 → SheetSaid q s (record { state = next; at = end + 1; check = check })
     refused cause n c two =
@@ -117,7 +121,7 @@ module _ (q : State) (s : List ℕ) (state : State) (at end : ℕ) (going : Goin
 
     pub goes-on : check ≡ SettingsCheck.Accepted → Going q s next (end + 1)
     goes-on c =
-        record { stands = step-stands; same = λ size r ends. step-same size r ends ∙ rw c }
+        record { stands = step-stands; same = λ e size r ends. step-same e size r ends ∙ rw c }
 
 pub past : (q : State) (s : List ℕ) (state : State) (at : ℕ) → Going q s state at → (state .phase ≡ 0 → ⊥) → SheetSaid q s (record { state = state; at = at; check = SettingsCheck.Accepted })
 past q s state at going other =

@@ -8,7 +8,7 @@ use native.Mathlib.Omega.{arith}
 use borrow.Author.Tests.{lt-ltb, le-ltb, le-leb, lt-leb, ne-eqb}
 use lib.Dec.{ltb}
 use lib.ListN.{length, drop, length-drop}
-use Rattle.rules.specs.Regions.{ourEquipment}
+use Rattle.rules.specs.Samples.{Equipment}
 use Rattle.rules.specs.Transcripts.{linesIn, refusedLine}
 use Rattle.rules.specs.declared.Refusal.the-variants.{Form, Sample}
 use Rattle.buffers.specs.Written.{Wrote}
@@ -52,9 +52,9 @@ module _ (q : State) (l : List ℕ) where
 
 -- ---- the tail
 
-module _ (ends : Bool) (s d : List ℕ) (h : Handled) (inside : h .at ≤ length s) (full : h .written ≤ length d) where
-  stays : ((before : List ℕ) → length before ≡ h .written → handled ourEquipment ends (length d) (record { state = h .state; text = before }) (linesIn (drop (h .at) s)) ≡ record { state = h .state; text = before })
-      → Closed ends s d h d h
+module _ (e : Equipment) (ends : Bool) (s d : List ℕ) (h : Handled) (inside : h .at ≤ length s) (full : h .written ≤ length d) where
+  stays : ((before : List ℕ) → length before ≡ h .written → handled e ends (length d) (record { state = h .state; text = before }) (linesIn (drop (h .at) s)) ≡ record { state = h .state; text = before })
+      → Closed e ends s d h d h
   stays f =
       record {
         later = omega arith;
@@ -65,17 +65,17 @@ module _ (ends : Bool) (s d : List ℕ) (h : Handled) (inside : h .at ≤ length
         all = λ before l. f before l ∙ ap (λ (t : List ℕ). record { state = h .state; text = t }) (sym (append-nil before));
       }
 
-  pub done-stays : 2 ≤ h .state .phase → Closed ends s d h d h
+  pub done-stays : 2 ≤ h .state .phase → Closed e ends s d h d h
   done-stays p =
-      stays (λ before l. handled-stops ourEquipment ends (length d) (record { state = h .state; text = before }) (linesIn (drop (h .at) s)) (rw (le-leb 2 (h .state .phase) p)))
+      stays (λ before l. handled-stops e ends (length d) (record { state = h .state; text = before }) (linesIn (drop (h .at) s)) (rw (le-leb 2 (h .state .phase) p)))
 
   or-true : (a : Bool) → (a || true) ≡ true
   or-true true = refl
   or-true false = refl
 
-  pub full-stays : length d < h .written + lineRoom → Closed ends s d h d h
+  pub full-stays : length d < h .written + lineRoom → Closed e ends s d h d h
   full-stays p =
-      stays (λ before l. handled-stops ourEquipment ends (length d) (record { state = h .state; text = before }) (linesIn (drop (h .at) s)) (rw (lt-ltb (length d) (length before + lineRoom) (omega arith)) (or-true (isDone (h .state)))))
+      stays (λ before l. handled-stops e ends (length d) (record { state = h .state; text = before }) (linesIn (drop (h .at) s)) (rw (lt-ltb (length d) (length before + lineRoom) (omega arith)) (or-true (isDone (h .state)))))
 
   module _ (low : h .state .phase < 2) (free : h .written + lineRoom ≤ length d) (stuck : Stuck s d h) where
     going : isDone (h .state) ≡ false
@@ -84,37 +84,37 @@ module _ (ends : Bool) (s d : List ℕ) (h : Handled) (inside : h .at ≤ length
     abbrev rest : List ℕ
     rest = drop (h .at) s
 
-    tail-is : (before : List ℕ) → length before ≡ h .written → handled ourEquipment ends (length d) (record { state = h .state; text = before }) (linesIn rest) ≡ atTail ends (record { state = h .state; text = before }) rest
+    tail-is : (before : List ℕ) → length before ≡ h .written → handled e ends (length d) (record { state = h .state; text = before }) (linesIn rest) ≡ atTail ends (record { state = h .state; text = before }) rest
     tail-is before l =
-        handled-unfed ourEquipment ends (length d) (record { state = h .state; text = before }) rest (stuck going free)
+        handled-unfed e ends (length d) (record { state = h .state; text = before }) rest (stuck going free)
         ∙ rw (going, le-ltb (length d) (length before + lineRoom) (omega arith))
 
     rest-length : length rest ≡ length s - h .at
     rest-length = length-drop (h .at) s
 
     pub closes : ends ≡ true → (d′ : List ℕ) (w′ : ℕ) → ((l : List ℕ) → length l ≡ length s - h .at → Wrote d (h .written) d′ w′ (endText (h .state) l)) → (next : State) → next ≡ stopped (h .state) (length s - h .at)
-        → Closed ends s d h d′ (record { state = next; at = length s; written = w′ })
-    closes e d′ w′ wrote next is =
+        → Closed e ends s d h d′ (record { state = next; at = length s; written = w′ })
+    closes p d′ w′ wrote next is =
         record {
           later = inside;
           inside = omega arith;
           taken = ap (λ (k : State). k .taken) is;
           text = endText (h .state) rest;
           wrote = wrote rest rest-length;
-          all = λ before l. tail-is before l ∙ rw (e, is, rest-length);
+          all = λ before l. tail-is before l ∙ rw (p, is, rest-length);
         }
 
     pub drops : ends ≡ false → (h .state .long || ltb longest (length s - h .at)) ≡ true → (next : State) → next ≡ droppedState (h .state) (length s - h .at)
-        → Closed ends s d h d (record { state = next; at = length s; written = h .written })
-    drops e long next is =
+        → Closed e ends s d h d (record { state = next; at = length s; written = h .written })
+    drops p long next is =
         record {
           later = inside;
           inside = omega arith;
           taken = ap (λ (k : State). k .taken) is;
           text = [];
           wrote = wrote-none d (h .written) full;
-          all = λ before l. tail-is before l ∙ rw (e, rest-length, long, is, append-nil before);
+          all = λ before l. tail-is before l ∙ rw (p, rest-length, long, is, append-nil before);
         }
 
-    pub waits : ends ≡ false → (h .state .long || ltb longest (length s - h .at)) ≡ false → Closed ends s d h d h
-    waits e short = stays (λ before l. tail-is before l ∙ rw (e, rest-length, short))
+    pub waits : ends ≡ false → (h .state .long || ltb longest (length s - h .at)) ≡ false → Closed e ends s d h d h
+    waits p short = stays (λ before l. tail-is before l ∙ rw (p, rest-length, short))

@@ -10,7 +10,7 @@ use borrow.Author.Tests.{leb-false, eq-eqb}
 use lib.Dec.{leb}
 use lib.ListN.{length, take, drop, length-append, length-take}
 use lib.Seq.{take-all}
-use Rattle.rules.specs.Regions.{ourEquipment}
+use Rattle.rules.specs.Samples.{Equipment}
 use Rattle.rules.specs.Text.{hasFeed}
 use Rattle.rules.specs.Transcripts.{linesIn, inputEnd}
 use Rattle.buffers.specs.Written.{Wrote}
@@ -30,22 +30,22 @@ use Rattle.respond.proofs.Buffers.{wrote-none, wrote-length}
 
 -- ---- the sheet's lines, written
 
-pub sheet-carried : (q : State) (s d d′ : List ℕ) (r : SheetLines) (w : ℕ) → SheetSaid q s r → lineRoom ≤ length d → Wrote d 0 d′ w (checkText (r .check))
-    → Carried s d (begun q) d′ (record { state = r .state; at = r .at; written = w })
-sheet-carried q s d d′ r w said room wrote =
+pub sheet-carried : (e : Equipment) (q : State) (s d d′ : List ℕ) (r : SheetLines) (w : ℕ) → SheetSaid q s r → lineRoom ≤ length d → Wrote d 0 d′ w (checkText (r .check))
+    → Carried e s d (begun q) d′ (record { state = r .state; at = r .at; written = w })
+sheet-carried e q s d d′ r w said room wrote =
     record { stands = said .stands; text = checkText (r .check); wrote = wrote; same = same }
   where
     same : (before : List ℕ) → length before ≡ 0 → (ends : Bool)
-        → handled ourEquipment ends (length d) (record { state = q; text = before }) (linesIn s)
-        ≡ handled ourEquipment ends (length d) (record { state = r .state; text = before ++ checkText (r .check) }) (linesIn (drop (r .at) s))
-    same [] l ends = said .same (length d) room ends
+        → handled e ends (length d) (record { state = q; text = before }) (linesIn s)
+        ≡ handled e ends (length d) (record { state = r .state; text = before ++ checkText (r .check) }) (linesIn (drop (r .at) s))
+    same [] l ends = said .same e (length d) room ends
     same (b ∷ before) l ends = absurd (omega arith)
 
 -- ---- nothing of the samples yet
 
-pub not-samples : (s d : List ℕ) (h : Handled) → h .at ≤ length s → h .written ≤ length d → Fit (h .state) (length s - h .at)
-    → (readsSheet (h .state) ≡ true → hasFeed (drop (h .at) s) ≡ false) → (h .state .phase ≡ 1 → ⊥) → Carried s d h d h × Stuck s d h
-not-samples s d h inside room fit waiting other = (
+pub not-samples : (e : Equipment) (s d : List ℕ) (h : Handled) → h .at ≤ length s → h .written ≤ length d → Fit (h .state) (length s - h .at)
+    → (readsSheet (h .state) ≡ true → hasFeed (drop (h .at) s) ≡ false) → (h .state .phase ≡ 1 → ⊥) → Carried e s d h d h × Stuck s d h
+not-samples e s d h inside room fit waiting other = (
   record {
     stands = record { later = omega arith; inside = inside; taken = omega arith; fit = fit };
     text = [];
@@ -64,14 +64,14 @@ not-samples s d h inside room fit waiting other = (
 
 -- ---- one part after the other
 
-module _ (s d d₁ d₂ : List ℕ) (h a : Handled) (first : Carried s d h d₁ a) where
+module _ (e : Equipment) (s d d₁ d₂ : List ℕ) (h a : Handled) (first : Carried e s d h d₁ a) where
   same-size : length d₁ ≡ length d
   same-size = wrote-length (first .wrote)
 
   longer : (before : List ℕ) → length before ≡ h .written → length (before ++ first .text) ≡ a .written
   longer before l = omega (arith, length-append before (first .text), first .wrote .after)
 
-  pub carried-then : (b : Handled) → Carried s d₁ a d₂ b → Carried s d h d₂ b
+  pub carried-then : (b : Handled) → Carried e s d₁ a d₂ b → Carried e s d h d₂ b
   carried-then b second =
       let t = first .stands in
       let u = second .stands in
@@ -81,11 +81,11 @@ module _ (s d d₁ d₂ : List ℕ) (h a : Handled) (first : Carried s d h d₁ 
         wrote = and-then (first .wrote) (second .wrote);
         same = λ before l ends.
             first .same before l ends
-            ∙ subst (λ (n : ℕ). handled ourEquipment ends n (record { state = a .state; text = before ++ first .text }) (linesIn (drop (a .at) s)) ≡ handled ourEquipment ends n (record { state = b .state; text = (before ++ first .text) ++ second .text }) (linesIn (drop (b .at) s))) same-size (second .same (before ++ first .text) (longer before l) ends)
-            ∙ ap (λ (t : List ℕ). handled ourEquipment ends (length d) (record { state = b .state; text = t }) (linesIn (drop (b .at) s))) (append-assoc before (first .text) (second .text));
+            ∙ subst (λ (n : ℕ). handled e ends n (record { state = a .state; text = before ++ first .text }) (linesIn (drop (a .at) s)) ≡ handled e ends n (record { state = b .state; text = (before ++ first .text) ++ second .text }) (linesIn (drop (b .at) s))) same-size (second .same (before ++ first .text) (longer before l) ends)
+            ∙ ap (λ (t : List ℕ). handled e ends (length d) (record { state = b .state; text = t }) (linesIn (drop (b .at) s))) (append-assoc before (first .text) (second .text));
       }
 
-  pub closed-then : (ends : Bool) (r : Handled) → Closed ends s d₁ a d₂ r → Closed ends s d h d₂ r
+  pub closed-then : (ends : Bool) (r : Handled) → Closed e ends s d₁ a d₂ r → Closed e ends s d h d₂ r
   closed-then ends r second =
       let t = first .stands in
       record {
@@ -96,18 +96,18 @@ module _ (s d d₁ d₂ : List ℕ) (h a : Handled) (first : Carried s d h d₁ 
         wrote = and-then (first .wrote) (second .wrote);
         all = λ before l.
             first .same before l ends
-            ∙ subst (λ (n : ℕ). handled ourEquipment ends n (record { state = a .state; text = before ++ first .text }) (linesIn (drop (a .at) s)) ≡ record { state = r .state; text = (before ++ first .text) ++ second .text }) same-size (second .all (before ++ first .text) (longer before l))
+            ∙ subst (λ (n : ℕ). handled e ends n (record { state = a .state; text = before ++ first .text }) (linesIn (drop (a .at) s)) ≡ record { state = r .state; text = (before ++ first .text) ++ second .text }) same-size (second .all (before ++ first .text) (longer before l))
             ∙ ap (λ (t : List ℕ). record { state = r .state; text = t }) (append-assoc before (first .text) (second .text));
       }
 
 -- ---- the whole
 
-pub wild : (q : State) (block : List ℕ) (last : Bool) (d : List ℕ) (next : State) → sensible q ≡ false → next ≡ stopped q 0
-    → Responds q block last d d (record { state = next; taken = 0; written = 0; done = true })
+pub wild : (e : Equipment) (q : State) (block : List ℕ) (last : Bool) (d : List ℕ) (next : State) → sensible q ≡ false → next ≡ stopped q 0
+    → Responds e q block last d d (record { state = next; taken = 0; written = 0; done = true })
 unfolding respondOf readState
-wild q block last d next e is =
-    let said : respondOf ourEquipment q block last (length d) ≡ record { state = stopped q 0; text = [] }
-    = rw e (handled-stops ourEquipment (last || leb (budget q) (length block)) (length d) (record { state = stopped q 0; text = [] }) (linesIn (take (budget q) block)) refl) in
+wild e q block last d next odd is =
+    let said : respondOf e q block last (length d) ≡ record { state = stopped q 0; text = [] }
+    = rw odd (handled-stops e (last || leb (budget q) (length block)) (length d) (record { state = stopped q 0; text = [] }) (linesIn (take (budget q) block)) refl) in
     record {
       state = is ∙ sym (ap (λ (k : Said). k .state) said);
       taken = rw said (omega arith);
@@ -118,9 +118,9 @@ wild q block last d next e is =
 pub part-inside : (block : List ℕ) (end at : ℕ) → at ≤ length (take (end - 0) (drop 0 block)) → at ≤ length block
 part-inside block end at h = omega (arith, length-take (end - 0) block)
 
-module _ (q : State) (block : List ℕ) (last : Bool) (e : sensible q ≡ true) where
+module _ (e : Equipment) (q : State) (block : List ℕ) (last : Bool) (fine : sensible q ≡ true) where
   fit : Fit q 0
-  fit = sensible-fit q e
+  fit = sensible-fit q fine
 
   pub taken-low : q .taken ≤ inputEnd
   taken-low = omega (arith, fit .high)
@@ -142,16 +142,16 @@ module _ (q : State) (block : List ℕ) (last : Bool) (e : sensible q ≡ true) 
       record { from-one = fit .from-one; low = fit .low; high = omega (arith, fit .high, n); sheet = fit .sheet }
 
   -- a call that takes nothing leaves no more than 128 bytes
-  pub short-left : (d d′ : List ℕ) (r : Responded) → Responds q block last d d′ r → lineRoom ≤ length d → r .done ≡ false → r .taken ≡ 0 → length block ≤ longest
+  pub short-left : (d d′ : List ℕ) (r : Responded) → Responds e q block last d d′ r → lineRoom ≤ length d → r .done ≡ false → r .taken ≡ 0 → length block ≤ longest
   short-left d d′ r c room going none =
-      nothing-taken ourEquipment q block last (length d) fit room (sym (ap isDone (c .state)) ∙ sym (c .done) ∙ going) (sym (c .taken) ∙ none)
+      nothing-taken e q block last (length d) fit room (sym (ap isDone (c .state)) ∙ sym (c .done) ∙ going) (sym (c .taken) ∙ none)
 
   pub responds : (end : ℕ) → end ≡ min (budget q) (length block) → (ends : Bool) → ends ≡ (last || leb (budget q) (length block)) → (d d′ : List ℕ) (r : Handled)
-      → Closed ends (take (end - 0) (drop 0 block)) d (begun q) d′ r
-      → Responds q block last d d′ (record { state = r .state; taken = r .at; written = r .written; done = leb 2 (r .state .phase) })
+      → Closed e ends (take (end - 0) (drop 0 block)) d (begun q) d′ r
+      → Responds e q block last d d′ (record { state = r .state; taken = r .at; written = r .written; done = leb 2 (r .state .phase) })
   unfolding respondOf
   responds end p ends pe d d′ r c =
-      let said : respondOf ourEquipment q block last (length d) ≡ record { state = r .state; text = c .text }
+      let said : respondOf e q block last (length d) ≡ record { state = r .state; text = c .text }
       = rw (fit-read q 0 fit, ← pe, ← part-is end p) (c .all [] refl) in
       record {
         state = sym (ap (λ (k : Said). k .state) said);

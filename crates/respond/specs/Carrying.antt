@@ -5,7 +5,7 @@ use mathlib.Core.Bool.{Bool, true, false}
 use mathlib.Core.List.{List, [], _++_}
 use Prim.Native.Nat.{ℕ, _+_, _-_, _≤_}
 use lib.ListN.{length, drop}
-use Rattle.rules.specs.Regions.{ourEquipment}
+use Rattle.rules.specs.Samples.{Equipment}
 use Rattle.rules.specs.Text.{hasFeed}
 use Rattle.rules.specs.Transcripts.{linesIn, refusedLine}
 use Rattle.rules.specs.declared.SettingsCheck.{SettingsCheck}
@@ -34,22 +34,22 @@ pub record Stands (s : List ℕ) (q : State) (at₀ : ℕ) (r : State) (at : ℕ
   pub taken : r .taken ≡ q .taken + (at - at₀)
   pub fit : Fit r (length s - at)
 
--- the sheet's lines of a block, from its beginning, where nothing was said before
+-- the sheet's lines of a block, from its beginning, where nothing was said before; they are the same for every equipment
 pub record SheetSaid (q : State) (s : List ℕ) (r : SheetLines) : Type 0 where
   pub stands : Stands s q 0 (r .state) (r .at)
-  pub same : (size : ℕ) → lineRoom ≤ size → (ends : Bool)
-      → handled ourEquipment ends size (record { state = q; text = [] }) (linesIn s)
-      ≡ handled ourEquipment ends size (record { state = r .state; text = checkText (r .check) }) (linesIn (drop (r .at) s))
+  pub same : (e : Equipment) (size : ℕ) → lineRoom ≤ size → (ends : Bool)
+      → handled e ends size (record { state = q; text = [] }) (linesIn s)
+      ≡ handled e ends size (record { state = r .state; text = checkText (r .check) }) (linesIn (drop (r .at) s))
   pub stuck : readsSheet (r .state) ≡ true → hasFeed (drop (r .at) s) ≡ false
 
 -- lines of a block said from h on into a buffer d, which is d′ after it
-pub record Carried (s d : List ℕ) (h : Handled) (d′ : List ℕ) (r : Handled) : Type 0 where
+pub record Carried (e : Equipment) (s d : List ℕ) (h : Handled) (d′ : List ℕ) (r : Handled) : Type 0 where
   pub stands : Stands s (h .state) (h .at) (r .state) (r .at)
   pub text : List ℕ
   pub wrote : Wrote d (h .written) d′ (r .written) text
   pub same : (before : List ℕ) → length before ≡ h .written → (ends : Bool)
-      → handled ourEquipment ends (length d) (record { state = h .state; text = before }) (linesIn (drop (h .at) s))
-      ≡ handled ourEquipment ends (length d) (record { state = r .state; text = before ++ text }) (linesIn (drop (r .at) s))
+      → handled e ends (length d) (record { state = h .state; text = before }) (linesIn (drop (h .at) s))
+      ≡ handled e ends (length d) (record { state = r .state; text = before ++ text }) (linesIn (drop (r .at) s))
 
 -- the state before a block, with nothing written
 abbrev pub begun : State → Handled
@@ -60,18 +60,18 @@ abbrev pub Stuck : List ℕ → List ℕ → Handled → Type 0
 Stuck s d h = isDone (h .state) ≡ false → h .written + lineRoom ≤ length d → hasFeed (drop (h .at) s) ≡ false
 
 -- all that is handled of a block
-pub record Closed (ends : Bool) (s d : List ℕ) (h : Handled) (d′ : List ℕ) (r : Handled) : Type 0 where
+pub record Closed (e : Equipment) (ends : Bool) (s d : List ℕ) (h : Handled) (d′ : List ℕ) (r : Handled) : Type 0 where
   pub later : h .at ≤ r .at
   pub inside : r .at ≤ length s
   pub taken : r .state .taken ≡ h .state .taken + (r .at - h .at)
   pub text : List ℕ
   pub wrote : Wrote d (h .written) d′ (r .written) text
   pub all : (before : List ℕ) → length before ≡ h .written
-      → handled ourEquipment ends (length d) (record { state = h .state; text = before }) (linesIn (drop (h .at) s)) ≡ record { state = r .state; text = before ++ text }
+      → handled e ends (length d) (record { state = h .state; text = before }) (linesIn (drop (h .at) s)) ≡ record { state = r .state; text = before ++ text }
 
 -- what `respond` answers to a block, with d the lent buffer and d′ the buffer after it
-pub record Responds (q : State) (block : List ℕ) (last : Bool) (d d′ : List ℕ) (r : Responded) : Type 0 where
-  pub state : r .state ≡ respondOf ourEquipment q block last (length d) .state
-  pub taken : r .taken ≡ respondOf ourEquipment q block last (length d) .state .taken - q .taken
-  pub written : Wrote d 0 d′ (r .written) (respondOf ourEquipment q block last (length d) .text)
+pub record Responds (e : Equipment) (q : State) (block : List ℕ) (last : Bool) (d d′ : List ℕ) (r : Responded) : Type 0 where
+  pub state : r .state ≡ respondOf e q block last (length d) .state
+  pub taken : r .taken ≡ respondOf e q block last (length d) .state .taken - q .taken
+  pub written : Wrote d 0 d′ (r .written) (respondOf e q block last (length d) .text)
   pub done : r .done ≡ isDone (r .state)

@@ -6,9 +6,9 @@ use mathlib.Core.Option.{Option, none, some}
 use Prim.Native.Nat.{ℕ, _+_}
 use lib.IntN.{ℤ, natAbs}
 use lib.ListN.{length, replicate}
+use Rattle.rules.specs.Samples.{Equipment}
 use Rattle.rules.specs.Text.{firstLine, hasFeed}
 use Rattle.rules.specs.Forms.{sampleForm}
-use Rattle.rules.specs.Regions.{ourEquipment}
 use Rattle.rules.specs.Records.{turnedAway, stepOf}
 use Rattle.rules.specs.declared.Settings.{Settings}
 use Rattle.rules.specs.declared.Board.{Board}
@@ -34,5 +34,5 @@ lineAt long s at =
     cond (hasFeed s) (withNumbers (at + length (firstLine s) + 1) (numbersIn long sampleForm (firstLine s))) (withoutNumbers false at)
 
 -- a step where the line has the sample form, refusal 8 where it has not
-abbrev pub answerTo : Board → Settings → LineAt → Stepped
-answerTo b st x = cond (x .found) (stepOf ourEquipment b st (x .slice)) (turnedAway b Sample)
+abbrev pub answerTo : Equipment → Board → Settings → LineAt → Stepped
+answerTo e b st x = cond (x .found) (stepOf e b st (x .slice)) (turnedAway b Sample)

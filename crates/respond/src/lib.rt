@@ -3,6 +3,8 @@ ghost use mathlib.Core.Path.{_≡_};
 ghost use mathlib.Core.Bool.{true, false};
 ghost use Prim.Native.Nat.{_-_, _≤_, min};
 ghost use lib.ListN.{length, drop};
+ghost use Rattle.rules.specs.Samples.{Equipment};
+ghost use Rattle.rules.specs.Regions.{ourEquipment};
 ghost use Rattle.rules.specs.Text.{hasFeed};
 ghost use Rattle.program.specs.States.{Fit, readsSheet};
 ghost use Rattle.respond.specs.Carrying.{begun, Carried, Stuck, Closed, Responds};
@@ -36,7 +38,7 @@ pub struct Responded {
 // The sheet's lines of a block, and the line that is written where one is refused.
 fn on_sheet(q: State, s: &[u8], out: &mut [u8]) -> Handled
     requires { ⌜ (Fit q (length (now s))) × (128 ≤ length (now out)) ⌝ }
-    ensures { λ r. ⌜ Carried (now (s .entry)) (now (out .entry)) (begun q) (now (out .exit)) r ⌝ }
+    ensures { λ r. ⌜ ((e : Equipment) → Carried e (now (s .entry)) (now (out .entry)) (begun q) (now (out .exit)) r) ⌝ }
     ensures { λ r. ⌜ (readsSheet (r .state) ≡ true → hasFeed (drop (r .at) (now (s .entry))) ≡ false) ⌝ }
 {
     let r = sheet_lines(q, s);
@@ -59,7 +61,7 @@ fn on_sheet(q: State, s: &[u8], out: &mut [u8]) -> Handled
 // The sample lines of a block, once the sheet is read. The sensing table is made once for all of them.
 fn on_samples(h: Handled, s: &[u8], out: &mut [u8]) -> Handled
     requires { ⌜ (h .at ≤ length (now s)) × (h .written ≤ length (now out)) × (Fit (h .state) (length (now s) - h .at)) × (readsSheet (h .state) ≡ true → hasFeed (drop (h .at) (now s)) ≡ false) ⌝ }
-    ensures { λ r. ⌜ Carried (now (s .entry)) (now (out .entry)) h (now (out .exit)) r ⌝ }
+    ensures { λ r. ⌜ Carried ourEquipment (now (s .entry)) (now (out .entry)) h (now (out .exit)) r ⌝ }
     ensures { λ r. ⌜ Stuck (now (s .entry)) (now (out .entry)) r ⌝ }
 {
     let state = h.state;
@@ -73,7 +75,7 @@ fn on_samples(h: Handled, s: &[u8], out: &mut [u8]) -> Handled
 // A block whose bytes are all before the input's end.
 fn handle(q: State, s: &[u8], ends: bool, out: &mut [u8]) -> Handled
     requires { ⌜ Fit q (length (now s)) ⌝ }
-    ensures { λ r. ⌜ Closed ends (now (s .entry)) (now (out .entry)) (begun q) (now (out .exit)) r ⌝ }
+    ensures { λ r. ⌜ Closed ourEquipment ends (now (s .entry)) (now (out .entry)) (begun q) (now (out .exit)) r ⌝ }
 {
     if out.len() < 128 {
         return Handled {
@@ -97,7 +99,7 @@ fn least(a: usize, b: u64) -> usize
 // handled where the buffer has room for 128 bytes more, and a line without its line feed waits while it is not longer than 128
 // bytes: lend a buffer of 128 bytes or more, and blocks that can hold more than 128.
 pub fn respond(state: State, block: &[u8], last: bool, out: &mut [u8]) -> Responded
-    ensures { λ r. ⌜ Responds state (now (block .entry)) last (now (out .entry)) (now (out .exit)) r ⌝ }
+    ensures { λ r. ⌜ Responds ourEquipment state (now (block .entry)) last (now (out .entry)) (now (out .exit)) r ⌝ }
     ensures { λ r. ⌜ (r .taken ≤ length (now (block .entry))) × (r .written ≤ length (now (out .entry))) ⌝ }
     ensures { λ r. ⌜ (128 ≤ length (now (out .entry)) → r .done ≡ false → r .taken ≡ 0 → length (now (block .entry)) ≤ 128) ⌝ }
 {

@@ -5,13 +5,12 @@ ghost use Prim.Native.Nat.{_+_, _-_, _≤_};
 ghost use lib.Dec.{leb};
 ghost use lib.ListN.{length, drop};
 ghost use Rattle.rules.specs.Settings.{settingsAccepted};
-ghost use Rattle.rules.specs.Samples.{Slice};
-ghost use Rattle.rules.specs.Regions.{ourEquipment};
+ghost use Rattle.rules.specs.Samples.{Slice, Equipment};
+ghost use Rattle.rules.specs.Regions.{equippedWith};
 ghost use Rattle.rules.specs.Records.{stepOf};
 ghost use Rattle.rules.specs.Forms.{sampleForm};
 ghost use Rattle.rules.specs.Transcripts.{answerLine};
 ghost use Rattle.buffers.specs.Written.{Wrote};
-ghost use Rattle.sensing.specs.Tables.{IsTable};
 ghost use Rattle.program.specs.States.{Fit};
 ghost use Rattle.program.specs.Responses.{lineRoom};
 ghost use Rattle.respond.specs.SampleLines.{withoutNumbers, formlessAt, lineAt, answerTo};
@@ -107,7 +106,7 @@ fn line_at(form: &[u8], long: bool, s: &[u8], at: usize) -> LineAt
 // The settings' own refusal, whatever the sample.
 fn refused_settings(b: Board, s: Settings) -> Stepped
     requires { ⌜ settingsAccepted s ≡ false ⌝ }
-    ensures { λ r. ⌜ ((x : Slice) → r ≡ stepOf ourEquipment b s x) ⌝ }
+    ensures { λ r. ⌜ ((e : Equipment) (x : Slice) → r ≡ stepOf e b s x) ⌝ }
 {
     match settings::check(s) {
         SettingsCheck::Refused(cause, _) => Stepped {
@@ -124,8 +123,8 @@ fn refused_settings(b: Board, s: Settings) -> Stepped
 
 // What a line with or without numbers makes of a board: a step, or the refusal of a line that has not its form.
 fn answer_to(table: &[u16; 4096], fine: bool, b: Board, s: Settings, x: LineAt) -> Stepped
-    requires { ⌜ (IsTable (now table)) × (fine ≡ settingsAccepted s) ⌝ }
-    ensures { λ r. ⌜ r ≡ answerTo b s x ⌝ }
+    requires { ⌜ fine ≡ settingsAccepted s ⌝ }
+    ensures { λ r. ⌜ r ≡ answerTo (equippedWith (now (table .entry))) b s x ⌝ }
 {
     if !x.found {
         return Stepped {
@@ -152,8 +151,8 @@ fn fits(ended: bool, room: usize) -> bool
 
 // The sample lines of a block, as many as are there and fit, from a place that the state stands at.
 pub fn sample_lines(table: &[u16; 4096], h: Handled, s: &[u8], out: &mut [u8]) -> Handled
-    requires { ⌜ (IsTable (now table)) × (h .state .phase ≡ 1) × (Fit (h .state) (length (now s) - h .at)) × (h .at ≤ length (now s)) × (h .written ≤ length (now out)) ⌝ }
-    ensures { λ r. ⌜ Carried (now (s .entry)) (now (out .entry)) h (now (out .exit)) r ⌝ }
+    requires { ⌜ (h .state .phase ≡ 1) × (Fit (h .state) (length (now s) - h .at)) × (h .at ≤ length (now s)) × (h .written ≤ length (now out)) ⌝ }
+    ensures { λ r. ⌜ Carried (equippedWith (now (table .entry))) (now (s .entry)) (now (out .entry)) h (now (out .exit)) r ⌝ }
     ensures { λ r. ⌜ Stuck (now (s .entry)) (now (out .entry)) r ⌝ }
 {
     let q = h.state;

@@ -3,6 +3,7 @@ ghost use mathlib.Core.Path.{_≡_};
 ghost use mathlib.Core.List.{List};
 ghost use Prim.Native.Nat.{ℕ, _+_, _-_, _≤_, _<_};
 ghost use lib.ListN.{length};
+ghost use Rattle.rules.specs.Samples.{Equipment};
 ghost use Rattle.buffers.specs.Written.{Wrote};
 ghost use Rattle.program.specs.States.{Fit};
 ghost use Rattle.program.specs.Saying.{endText};
@@ -55,7 +56,7 @@ fn drop_bytes(q: State, n: u64) -> State
 // and dropped; any other waits for its line feed.
 pub fn tail(h: Handled, s: &[u8], ends: bool, out: &mut [u8]) -> Handled
     requires { ⌜ (h .at ≤ length (now s)) × (h .written ≤ length (now out)) × (Fit (h .state) (length (now s) - h .at)) × (Stuck (now s) (now out) h) ⌝ }
-    ensures { λ r. ⌜ Closed ends (now (s .entry)) (now (out .entry)) h (now (out .exit)) r ⌝ }
+    ensures { λ r. ⌜ ((e : Equipment) → Closed e ends (now (s .entry)) (now (out .entry)) h (now (out .exit)) r) ⌝ }
 {
     let q = h.state;
     let at = h.at;

@@ -1,8 +1,10 @@
 -- Document 01, "One sample", rule 3: the operating regions of ride-through, which the paper calls bands.
 -- Assumes nothing.
 use mathlib.Core.Bool.{Bool, true, false, cond}
+use mathlib.Core.List.{List}
 use Prim.Native.Nat.{ℕ}
 use lib.Dec.{leb, ltb}
+use lib.ListN.{getD}
 use Rattle.rules.specs.Tests.{within}
 use Rattle.rules.specs.Sensing.{voltage}
 use Rattle.rules.specs.Samples.{Slice, Equipment, frequency, lowest, highest}
@@ -45,3 +47,7 @@ isContinuous Cease = false
 -- the board of document 01: its own sensing table and the Category III voltage regions
 abbrev pub ourEquipment : Equipment
 ourEquipment = record { sensing = voltage; region = voltageRegion }
+
+-- a board with a lent sensing table, the voltage of each code, and the Category III voltage regions
+abbrev pub equippedWith : List ℕ → Equipment
+equippedWith table = record { sensing = λ code. getD table code 0; region = voltageRegion }

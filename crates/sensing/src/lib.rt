@@ -1,7 +1,8 @@
 // Document 01, "Sensing": a mean-square code to a voltage, in ten-thousandths of nominal.
 ghost use mathlib.Core.Path.{_≡_};
 ghost use Prim.Native.Nat.{_<_};
-ghost use Rattle.rules.specs.Sensing.{voltage, sensed};
+ghost use lib.ListN.{getD};
+ghost use Rattle.rules.specs.Sensing.{sensed};
 ghost use Rattle.sensing.specs.Tables.{IsTable};
 
 mod entries;
@@ -17,10 +18,10 @@ pub fn table() -> [u16; 4096]
     VOLTS
 }
 
-// The voltage of a code of the table.
+// The voltage of a code, by a lent table.
 pub fn volts(table: &[u16; 4096], code: u32) -> u16
-    requires { ⌜ (IsTable (now table)) × (code < 4096) ⌝ }
-    ensures { λ r. ⌜ r ≡ voltage code ⌝ }
+    requires { ⌜ code < 4096 ⌝ }
+    ensures { λ r. ⌜ r ≡ getD (now (table .entry)) code 0 ⌝ }
 {
     table[code as usize]
 }

@@ -14,9 +14,9 @@ use mir.Val.{SFits, toZ, ofZ}
 use mir.Facts.{toZ-ofZ}
 use Rattle.rules.specs.Tests.{any, within}
 use Rattle.rules.specs.Settings.{settingsCheck, isAccepted, settingsAccepted}
-use Rattle.rules.specs.Samples.{Slice, permitted, available, operatorLimit, mean, sampleCheck}
+use Rattle.rules.specs.Samples.{Slice, Equipment, permitted, available, operatorLimit, mean, sampleCheck}
 use Rattle.rules.specs.Counters.{Rule, counted, full, broken, inRange, tripRules, readyRule, rules}
-use Rattle.rules.specs.Regions.{voltageRegion, frequencyRegion, worse, regionOf, isContinuous, ourEquipment}
+use Rattle.rules.specs.Regions.{voltageRegion, regionOf, isContinuous}
 use Rattle.rules.specs.Curves.{curve, nameplate}
 use Rattle.rules.specs.Service.{serves, ramped, statusOf, inService, shareOf, varsOf, wattCurve, wattsOf}
 use Rattle.rules.specs.Reports.{packedAfter, reportOf}
@@ -30,8 +30,9 @@ use Rattle.rules.specs.declared.SampleCheck.{SampleCheck}
 use Rattle.rules.specs.declared.Answer.{Answer}
 use Rattle.rules.specs.declared.Stepped.{Stepped}
 use Rattle.laws.proofs.Bools.{true-within}
+use Rattle.laws.proofs.SameRules.{SameRules, counted-same, full-same}
 use Rattle.readings.specs.declared.reading.Reading.{Reading}
-use Rattle.readings.specs.Readings.{readingOf, enters, rulesFrom, rulesAt}
+use Rattle.readings.specs.Readings.{readingOf, enters, regionAt, rulesFrom, rulesAt}
 use Rattle.service.specs.Steps.{Bits, reported}
 
 -- ---- a power fits the record's fields
@@ -55,33 +56,30 @@ kept16 z h = ap (λ (y : ℤ). toZ w16 (ofZ w16 y)) (kept32 z h) ∙ toZ-ofZ (fi
 min-assoc : (a b c : ℕ) → min (min a b) c ≡ min a (min b c)
 min-assoc a b c = omega arith
 
-module _ (s : Settings) (x : Slice) (r : Reading) (status share : ℕ) (q : readingOf x ≡ r) (low : 1 ≤ status) (high : status ≤ 3) where
-  mean-is : r .sum / 3 ≡ mean ourEquipment x
+module _ (e : Equipment) (s : Settings) (x : Slice) (r : Reading) (status share : ℕ) (q : readingOf e x ≡ r) (low : 1 ≤ status) (high : status ≤ 3) where
+  mean-is : r .sum / 3 ≡ mean e x
   mean-is = ap (λ (y : Reading). y .sum / 3) (sym q)
 
-  pub vars-are : (z : ℤ) → z ≡ curve (s .var) (r .sum / 3) → z ≡ varsOf ourEquipment s x status
+  pub vars-are : (z : ℤ) → z ≡ curve (s .var) (r .sum / 3) → z ≡ varsOf e s x status
   unfolding varsOf
-  vars-are z e = rw (true-within 1 3 status low high) (e ∙ ap (curve (s .var)) mean-is)
+  vars-are z k = rw (true-within 1 3 status low high) (k ∙ ap (curve (s .var)) mean-is)
 
   pub watts-are : (z : ℤ) (w c : ℕ) → z ≡ curve (s .var) (r .sum / 3) → c ≡ natAbs (curve (s .watt) (r .sum / 3))
       → w ≡ min (min (min (r .available) (r .limit)) (min share c)) (nameplate z)
-      → w ≡ wattsOf ourEquipment s x status share
+      → w ≡ wattsOf e s x status share
   unfolding wattsOf
-  watts-are z w c e d m =
-      let v : nameplate z ≡ nameplate (varsOf ourEquipment s x status) = ap nameplate (vars-are z e) in
-      let k : c ≡ wattCurve ourEquipment s x = d ∙ ap (λ (n : ℕ). natAbs (curve (s .watt) n)) mean-is in
+  watts-are z w c h d m =
+      let v : nameplate z ≡ nameplate (varsOf e s x status) = ap nameplate (vars-are z h) in
+      let k : c ≡ wattCurve e s x = d ∙ ap (λ (n : ℕ). natAbs (curve (s .watt) n)) mean-is in
       let a : r .available ≡ available x = ap (λ (y : Reading). y .available) (sym q) in
       let l : r .limit ≡ operatorLimit x = ap (λ (y : Reading). y .limit) (sym q) in
       rw (true-within 1 3 status low high) (m ∙ simp (a, l, k, v, min-assoc))
 
 -- ---- rule 3, on a reading
 
-pub region-of : (x : Slice) (r : Reading) → readingOf x ≡ r → (area : Region)
-    → area ≡ worse (voltageRegion (r .low)) (worse (voltageRegion (r .high)) (frequencyRegion (r .frequency)))
-    → regionOf ourEquipment x ≡ area
+pub region-of : (e : Equipment) (x : Slice) (r : Reading) → e .region ≡ voltageRegion → readingOf e x ≡ r → regionOf e x ≡ regionAt r
 unfolding regionOf
-region-of x r q area e =
-    ap (λ (y : Reading). worse (voltageRegion (y .low)) (worse (voltageRegion (y .high)) (frequencyRegion (y .frequency)))) q ∙ sym e
+region-of e x r regions q = rw regions (ap regionAt q)
 
 -- ---- rules 5 to 8
 
@@ -93,54 +91,30 @@ made status counters bits ramp share watts vars =
       answer = Answer.Reported (record { status = status; bits = bits; share = share; watts = watts; vars = vars });
     }
 
-module _ (s : Settings) (x : Slice) (n : List ℕ) (on : Bool) (area : Region) (bits ramp status share watts : ℕ) (vars : ℤ) where
-  pub settle-is : regionOf ourEquipment x ≡ area → Bits s n bits
+module _ (e : Equipment) (s : Settings) (x : Slice) (n : List ℕ) (on : Bool) (area : Region) (bits ramp status share watts : ℕ) (vars : ℤ) where
+  pub settle-is : regionOf e x ≡ area → Bits e s n bits
       → status ≡ statusOf on area (eqb ramp (s .ramp))
       → share ≡ 10000 * ramp / s .ramp
-      → vars ≡ varsOf ourEquipment s x status
-      → watts ≡ wattsOf ourEquipment s x status share
-      → made status n bits ramp share watts vars ≡ reported s (settled ourEquipment s x n on ramp)
+      → vars ≡ varsOf e s x status
+      → watts ≡ wattsOf e s x status share
+      → made status n bits ramp share watts vars ≡ reported e s (settled e s x n on ramp)
   unfolding settled shown reportOf
   settle-is p b q r v w =
-      let q′ : status ≡ statusOf on (regionOf ourEquipment x) (eqb ramp (s .ramp)) = q ∙ ap (λ (a : Region). statusOf on a (eqb ramp (s .ramp))) (sym p) in
-      let v′ : vars ≡ varsOf ourEquipment s x (statusOf on (regionOf ourEquipment x) (eqb ramp (s .ramp))) = v ∙ ap (varsOf ourEquipment s x) q′ in
-      let w′ : watts ≡ wattsOf ourEquipment s x (statusOf on (regionOf ourEquipment x) (eqb ramp (s .ramp))) (shareOf s ramp)
-      = w ∙ ap₂ (wattsOf ourEquipment s x) q′ r in
+      let q′ : status ≡ statusOf on (regionOf e x) (eqb ramp (s .ramp)) = q ∙ ap (λ (a : Region). statusOf on a (eqb ramp (s .ramp))) (sym p) in
+      let v′ : vars ≡ varsOf e s x (statusOf on (regionOf e x) (eqb ramp (s .ramp))) = v ∙ ap (varsOf e s x) q′ in
+      let w′ : watts ≡ wattsOf e s x (statusOf on (regionOf e x) (eqb ramp (s .ramp))) (shareOf s ramp)
+      = w ∙ ap₂ (wattsOf e s x) q′ r in
       parts q′ b r w′ v′
     where
-      parts : {a a′ d d′ e e′ f f′ : ℕ} {z z′ : ℤ} → a ≡ a′ → d ≡ d′ → e ≡ e′ → f ≡ f′ → z ≡ z′ → made a n d ramp e f z ≡ made a′ n d′ ramp e′ f′ z′
+      parts : {a a′ d d′ g g′ f f′ : ℕ} {z z′ : ℤ} → a ≡ a′ → d ≡ d′ → g ≡ g′ → f ≡ f′ → z ≡ z′ → made a n d ramp g f z ≡ made a′ n d′ ramp g′ f′ z′
       parts e₁ e₂ e₃ e₄ e₅ = rw (e₁, e₂, e₃, e₄, e₅)
 
 -- ---- rules 1 and 2, on a reading and on the sample
 
--- the rules count alike at the sample and have one top
-abbrev AllSame : Slice → List Rule → List Rule → Type 0
-AllSame x [] [] = Unit {0}
-AllSame x [] (q ∷ qs) = ⊥
-AllSame x (r ∷ rs) [] = ⊥
-AllSame x (r ∷ rs) (q ∷ qs) = ((r .counts x ≡ q .counts []) × (r .top ≡ q .top)) × AllSame x rs qs
-
-same-rules : (s : Settings) (x : Slice) → AllSame x (rules ourEquipment s) (rulesAt (readingOf x) s)
+same-rules : (e : Equipment) (s : Settings) (x : Slice) → SameRules x (rules e s) [] (rulesAt (readingOf e x) s)
 unfolding rulesFrom broken inRange enters
-same-rules s x =
+same-rules e s x =
     ((refl, refl), ((refl, refl), ((refl, refl), ((refl, refl), ((refl, refl), ((refl, refl), ((refl, refl), ((refl, refl), ((refl, refl), tt)))))))))
-
-counted-same : (x : Slice) (rs qs : List Rule) (ns : List ℕ) → AllSame x rs qs → each (counted x) rs ns ≡ each (counted []) qs ns
-unfolding each
-counted-same x [] [] ns a = refl
-counted-same x [] (q ∷ qs) ns a = absurd a
-counted-same x (r ∷ rs) [] ns a = absurd a
-counted-same x (r ∷ rs) (q ∷ qs) [] a = refl
-counted-same x (r ∷ rs) (q ∷ qs) (n ∷ ns) a =
-    ap₂ _∷_ (ap₂ (λ (b : Bool) (t : ℕ). cond b (min t (suc n)) 0) (a .0 .0) (a .0 .1)) (counted-same x rs qs ns (a .1))
-
-full-same : (x : Slice) (rs qs : List Rule) (ns : List ℕ) → AllSame x rs qs → each full rs ns ≡ each full qs ns
-unfolding each
-full-same x [] [] ns a = refl
-full-same x [] (q ∷ qs) ns a = absurd a
-full-same x (r ∷ rs) [] ns a = absurd a
-full-same x (r ∷ rs) (q ∷ qs) [] a = refl
-full-same x (r ∷ rs) (q ∷ qs) (n ∷ ns) a = ap₂ _∷_ (ap (eqb n) (a .0 .1)) (full-same x rs qs ns (a .1))
 
 -- a count that is read as its top counts on alike
 counted-capped : (x : Slice) (rs : List Rule) (ns : List ℕ) → each (counted x) rs (each capped rs ns) ≡ each (counted x) rs ns
@@ -186,64 +160,65 @@ kept-service status = by (inService status) refl
     by true p = p
     by false p = refl
 
-module _ (s : Settings) (x : Slice) (b : Board) (nine : length (b .counters) ≡ 9) (n : List ℕ) (bits : ℕ) (was on : Bool) (ramp : ℕ) where
-  counters-next : n ≡ each (counted []) (rulesAt (readingOf x) s) (b .counters) → n ≡ each (counted x) (rules ourEquipment s) (readAs ourEquipment s b .counters)
+module _ (e : Equipment) (s : Settings) (x : Slice) (b : Board) (nine : length (b .counters) ≡ 9) (n : List ℕ) (bits : ℕ) (was on : Bool) (ramp : ℕ) where
+  counters-next : n ≡ each (counted []) (rulesAt (readingOf e x) s) (b .counters) → n ≡ each (counted x) (rules e s) (readAs e s b .counters)
   unfolding readAs
-  counters-next e =
-      e ∙ sym (counted-same x (rules ourEquipment s) (rulesAt (readingOf x) s) (b .counters) (same-rules s x))
-      ∙ sym (counted-capped x (rules ourEquipment s) (b .counters))
+  counters-next p =
+      p ∙ sym (counted-same x [] (rules e s) (rulesAt (readingOf e x) s) (b .counters) (same-rules e s x))
+      ∙ sym (counted-capped x (rules e s) (b .counters))
 
-  pub bits-next : bits ≡ packedAfter 0 (each full (rulesAt (readingOf x) s) n) → Bits s n bits
-  bits-next e = e ∙ ap (packedAfter 0) (sym (full-same x (rules ourEquipment s) (rulesAt (readingOf x) s) n (same-rules s x)))
+  pub bits-next : bits ≡ packedAfter 0 (each full (rulesAt (readingOf e x) s) n) → Bits e s n bits
+  bits-next p = p ∙ ap (packedAfter 0) (sym (full-same x [] (rules e s) (rulesAt (readingOf e x) s) n (same-rules e s x)))
 
-  pub advance-is : n ≡ each (counted []) (rulesAt (readingOf x) s) (b .counters)
-      → Bits s n bits
+  pub advance-is : n ≡ each (counted []) (rulesAt (readingOf e x) s) (b .counters)
+      → Bits e s n bits
       → was ≡ inService (b .status)
       → ((trips : List Bool) (ready : Bool) → bits ≡ packedAfter 0 (trips ++ (ready ∷ [])) → on ≡ serves was (permitted x) (any trips) ready)
-      → ramp ≡ ramped was on (isContinuous (regionOf ourEquipment x)) (s .ramp) (cond was (min (s .ramp) (b .ramp)) 0)
-      → settled ourEquipment s x n on ramp ≡ next ourEquipment s x b
+      → ramp ≡ ramped was on (isContinuous (regionOf e x)) (s .ramp) (cond was (min (s .ramp) (b .ramp)) 0)
+      → settled e s x n on ramp ≡ next e s x b
   unfolding next ruled
   advance-is e₁ e₂ e₃ e₄ e₅ =
-      let long : length n ≡ 9 = ap length e₁ ∙ each-length (counted []) (rulesAt (readingOf x) s) (b .counters) 9 rules-long nine in
-      let split : each full (rules ourEquipment s) n ≡ each full (tripRules ourEquipment s) n ++ (full (readyRule ourEquipment s) (getD n 8 0) ∷ [])
-      = full-last (tripRules ourEquipment s) (readyRule ourEquipment s) n 8 refl long in
-      let on-is : on ≡ serves was (permitted x) (any (each full (tripRules ourEquipment s) n)) (full (readyRule ourEquipment s) (getD n 8 0))
-      = e₄ (each full (tripRules ourEquipment s) n) (full (readyRule ourEquipment s) (getD n 8 0)) (e₂ ∙ ap (packedAfter 0) split) in
-      let was-is : was ≡ inService (readAs ourEquipment s b .status) = e₃ ∙ sym (read-service) in
-      let ramp-is : ramp ≡ ramped was on (isContinuous (regionOf ourEquipment x)) (s .ramp) (readAs ourEquipment s b .ramp) = e₅ ∙ ap (ramped was on (isContinuous (regionOf ourEquipment x)) (s .ramp)) (ap (λ (t : Bool). cond t (min (s .ramp) (b .ramp)) 0) e₃ ∙ sym read-ramp) in
+      let long : length n ≡ 9 = ap length e₁ ∙ each-length (counted []) (rulesAt (readingOf e x) s) (b .counters) 9 rules-long nine in
+      let split : each full (rules e s) n ≡ each full (tripRules e s) n ++ (full (readyRule e s) (getD n 8 0) ∷ [])
+      = full-last (tripRules e s) (readyRule e s) n 8 refl long in
+      let on-is : on ≡ serves was (permitted x) (any (each full (tripRules e s) n)) (full (readyRule e s) (getD n 8 0))
+      = e₄ (each full (tripRules e s) n) (full (readyRule e s) (getD n 8 0)) (e₂ ∙ ap (packedAfter 0) split) in
+      let was-is : was ≡ inService (readAs e s b .status) = e₃ ∙ sym (read-service) in
+      let ramp-is : ramp ≡ ramped was on (isContinuous (regionOf e x)) (s .ramp) (readAs e s b .ramp)
+      = e₅ ∙ ap (ramped was on (isContinuous (regionOf e x)) (s .ramp)) (ap (λ (t : Bool). cond t (min (s .ramp) (b .ramp)) 0) e₃ ∙ sym read-ramp) in
       whole n was on ramp (counters-next e₁) was-is on-is ramp-is
     where
-      rules-long : length (rulesAt (readingOf x) s) ≡ 9
+      rules-long : length (rulesAt (readingOf e x) s) ≡ 9
       rules-long = unfold rulesFrom in refl
 
-      read-service : inService (readAs ourEquipment s b .status) ≡ inService (b .status)
+      read-service : inService (readAs e s b .status) ≡ inService (b .status)
       read-service = unfold readAs in kept-service (b .status)
 
-      read-ramp : readAs ourEquipment s b .ramp ≡ cond (inService (b .status)) (min (s .ramp) (b .ramp)) 0
+      read-ramp : readAs e s b .ramp ≡ cond (inService (b .status)) (min (s .ramp) (b .ramp)) 0
       read-ramp = unfold readAs in refl
 
       whole : (m : List ℕ) (w o : Bool) (r : ℕ)
-          → m ≡ each (counted x) (rules ourEquipment s) (readAs ourEquipment s b .counters)
-          → w ≡ inService (readAs ourEquipment s b .status)
-          → o ≡ serves w (permitted x) (any (each full (tripRules ourEquipment s) m)) (full (readyRule ourEquipment s) (getD m 8 0))
-          → r ≡ ramped w o (isContinuous (regionOf ourEquipment x)) (s .ramp) (readAs ourEquipment s b .ramp)
-          → settled ourEquipment s x m o r ≡ ruled ourEquipment s x (readAs ourEquipment s b)
+          → m ≡ each (counted x) (rules e s) (readAs e s b .counters)
+          → w ≡ inService (readAs e s b .status)
+          → o ≡ serves w (permitted x) (any (each full (tripRules e s) m)) (full (readyRule e s) (getD m 8 0))
+          → r ≡ ramped w o (isContinuous (regionOf e x)) (s .ramp) (readAs e s b .ramp)
+          → settled e s x m o r ≡ ruled e s x (readAs e s b)
       whole m w o r p q t u = rw (u, t, q, p)
 
 -- ---- refused calls
 
-module _ (s : Settings) (x : Slice) (b : Board) where
+module _ (e : Equipment) (s : Settings) (x : Slice) (b : Board) where
   good-settings : settingsAccepted s ≡ true → settingsCheck s ≡ SettingsCheck.Accepted
   good-settings ok = by (settingsCheck s) refl ok
     where
       by : (k : SettingsCheck) → settingsCheck s ≡ k → isAccepted k ≡ true → settingsCheck s ≡ SettingsCheck.Accepted
-      by SettingsCheck.Accepted e p = e
-      by (SettingsCheck.Refused cause line) e p = absurd (false≢true p)
+      by SettingsCheck.Accepted k p = k
+      by (SettingsCheck.Refused cause line) k p = absurd (false≢true p)
 
-  pub sample-refused : (cause : Refusal) → settingsAccepted s ≡ true → sampleCheck x ≡ SampleCheck.Refused cause → stepOf ourEquipment b s x ≡ turnedAway b cause
+  pub sample-refused : (cause : Refusal) → settingsAccepted s ≡ true → sampleCheck x ≡ SampleCheck.Refused cause → stepOf e b s x ≡ turnedAway b cause
   unfolding stepOf
-  sample-refused cause ok e = ap (onSettings ourEquipment s x b) (good-settings ok) ∙ ap (onSample ourEquipment s x b) e
+  sample-refused cause ok k = ap (onSettings e s x b) (good-settings ok) ∙ ap (onSample e s x b) k
 
-  pub settings-refused : (cause : Refusal) (line : ℕ) → settingsCheck s ≡ SettingsCheck.Refused cause line → stepOf ourEquipment b s x ≡ turnedAway b cause
+  pub settings-refused : (cause : Refusal) (line : ℕ) → settingsCheck s ≡ SettingsCheck.Refused cause line → stepOf e b s x ≡ turnedAway b cause
   unfolding stepOf
-  settings-refused cause line e = ap (onSettings ourEquipment s x b) e
+  settings-refused cause line k = ap (onSettings e s x b) k

@@ -2,8 +2,7 @@
 ghost use mathlib.Core.Path.{_≡_};
 ghost use Prim.Native.Nat.{_≤_};
 ghost use lib.IntN.{natAbs};
-ghost use Rattle.rules.specs.Samples.{Slice};
-ghost use Rattle.rules.specs.Regions.{ourEquipment};
+ghost use Rattle.rules.specs.Samples.{Slice, Equipment};
 ghost use Rattle.rules.specs.Service.{varsOf, wattsOf};
 ghost use Rattle.readings.specs.Readings.{readingOf, Exportable};
 use power::volt_var;
@@ -21,8 +20,8 @@ pub struct Powers {
 // What a board in this status gives. In statuses 1 to 3 the curves are read at the mean voltage; in others both powers are 0.
 pub fn powers_in(r: Reading, s: Settings, status: u8, share: u32) -> Powers
     requires { ⌜ Exportable r s ⌝ }
-    ensures { λ p. ⌜ ((x : Slice) → readingOf x ≡ r → p .vars ≡ varsOf ourEquipment s x status) ⌝ }
-    ensures { λ p. ⌜ ((x : Slice) → readingOf x ≡ r → p .watts ≡ wattsOf ourEquipment s x status share) ⌝ }
+    ensures { λ p. ⌜ ((e : Equipment) (x : Slice) → readingOf e x ≡ r → p .vars ≡ varsOf e s x status) ⌝ }
+    ensures { λ p. ⌜ ((e : Equipment) (x : Slice) → readingOf e x ≡ r → p .watts ≡ wattsOf e s x status share) ⌝ }
     ensures { λ p. ⌜ (p .watts ≤ 10000) × (natAbs (p .vars) ≤ 10000) ⌝ }
 {
     if status < 1 {

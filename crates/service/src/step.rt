@@ -5,12 +5,11 @@ ghost use mathlib.Core.List.{List, [], _∷_, _++_};
 ghost use Prim.Native.Nat.{_*_, _/_, _≤_, min};
 ghost use Rattle.rules.specs.Tests.{any};
 ghost use Rattle.rules.specs.Settings.{settingsAccepted};
-ghost use Rattle.rules.specs.Samples.{Slice};
-ghost use Rattle.rules.specs.Regions.{regionOf, isContinuous, ourEquipment};
+ghost use Rattle.rules.specs.Samples.{Slice, Equipment};
+ghost use Rattle.rules.specs.Regions.{voltageRegion, regionOf, isContinuous, ourEquipment, equippedWith};
 ghost use Rattle.rules.specs.Service.{serves, ramped, statusOf, inService};
 ghost use Rattle.rules.specs.Reports.{packedAfter};
 ghost use Rattle.rules.specs.Records.{fresh, settled, next, stepOf};
-ghost use Rattle.sensing.specs.Tables.{IsTable};
 ghost use Rattle.readings.specs.Readings.{readingOf, Exportable};
 ghost use Rattle.service.specs.Steps.{Bits, reported};
 use crate::powers::powers_in;
@@ -129,7 +128,7 @@ fn share(ramp: u32, length: u32) -> u32
 // Rules 5 to 8: the record and the report, from the counters, in service, the region and the ramp count.
 fn settle(s: Settings, r: Reading, c: Counters, on: bool, area: Region, ramp: u32) -> Stepped
     requires { ⌜ (Exportable r s) × (ramp ≤ s .ramp) ⌝ }
-    ensures { λ t. ⌜ ((x : Slice) → readingOf x ≡ r → regionOf ourEquipment x ≡ area → Bits s (c .n) (c .bits) → t ≡ reported s (settled ourEquipment s x (c .n) on ramp)) ⌝ }
+    ensures { λ t. ⌜ ((e : Equipment) (x : Slice) → readingOf e x ≡ r → regionOf e x ≡ area → Bits e s (c .n) (c .bits) → t ≡ reported e s (settled e s x (c .n) on ramp)) ⌝ }
 {
     let length = s.ramp;
     let status = status_of(on, area, ramp == length);
@@ -159,7 +158,7 @@ fn settle(s: Settings, r: Reading, c: Counters, on: bool, area: Region, ramp: u3
 // Rules 1 to 8, on what is read from an accepted sample.
 fn advance(b: Board, s: Settings, r: Reading) -> Stepped
     requires { ⌜ Exportable r s ⌝ }
-    ensures { λ t. ⌜ ((x : Slice) → readingOf x ≡ r → t ≡ reported s (next ourEquipment s x b)) ⌝ }
+    ensures { λ t. ⌜ ((e : Equipment) (x : Slice) → e .region ≡ voltageRegion → readingOf e x ≡ r → t ≡ reported e s (next e s x b)) ⌝ }
 {
     let old = b.counters;
     let inside = in_range(r, s);
@@ -171,10 +170,10 @@ fn advance(b: Board, s: Settings, r: Reading) -> Stepped
     settle(s, r, c, on, area, ramp)
 }
 
-// The step under settings that are accepted and with the sensing table lent: only the sample is checked.
+// The step under settings that are accepted and with a sensing table lent: only the sample is checked.
 pub fn step_accepted(table: &[u16; 4096], b: Board, s: Settings, x: &[u32]) -> Stepped
-    requires { ⌜ (IsTable (now table)) × (settingsAccepted s ≡ true) ⌝ }
-    ensures { λ t. ⌜ t ≡ stepOf ourEquipment b s (now (x .entry)) ⌝ }
+    requires { ⌜ settingsAccepted s ≡ true ⌝ }
+    ensures { λ t. ⌜ t ≡ stepOf (equippedWith (now (table .entry))) b s (now (x .entry)) ⌝ }
 {
     match check(x) {
         SampleCheck::Refused(cause) => Stepped {

@@ -2,6 +2,7 @@
 -- Assumes nothing.
 use native.Mathlib.Omega.{arith}
 use denote.Ref.{now}
+use Rattle.rules.specs.Regions.{ourEquipment}
 use Rattle.respond.proofs.Buffers.{wrote-length}
 use Rattle.respond.proofs.Tails.{full-stays}
 use Rattle.respond.proofs.Whole.{carried-then, closed-then}
@@ -15,7 +16,7 @@ returns c =
     let a = c .before .before .before in
     let s = now (a .args .s) in
     let d = now (a .args .out) in
-    full-stays (a .args .ends) s d (begun (a .args .q)) (omega arith) (omega arith) (omega arith)
+    full-stays ourEquipment (a .args .ends) s d (begun (a .args .q)) (omega arith) (omega arith) (omega arith)
 
 on-sheet-requires : tie.Need-on-sheet-requires
 on-sheet-requires c κs = search needs
@@ -23,8 +24,8 @@ on-sheet-requires c κs = search needs
 on-samples-requires : tie.Need-on-samples-requires
 on-samples-requires c κs =
     let r = c .before .before .before .on-sheet .ensures in
-    let t = r .0 .stands in
-    (t .inside, omega (arith, r .0 .wrote .inside, wrote-length (r .0 .wrote)), t .fit, r .1)
+    let k = r .0 ourEquipment in
+    (k .stands .inside, omega (arith, k .wrote .inside, wrote-length (k .wrote)), k .stands .fit, r .1)
 
 tail-requires : tie.Need-tail-requires
 tail-requires c κs =
@@ -42,7 +43,9 @@ returns-2 c =
     let d = now (a .args .out) in
     let r = c .before .before .before .before .before .before .before .before .before .before .on-sheet in
     let b = c .before .before .before .before .before .before .on-samples in
-    closed-then s d _ _ (begun (a .args .q)) (b .result) (carried-then s d _ _ (begun (a .args .q)) (r .result) (r .ensures .0) (b .result) (b .ensures .0)) (a .args .ends) (c .before .before .tail .result) (c .before .before .tail .ensures)
+    let end = c .before .before .tail in
+    let carried = carried-then ourEquipment s d _ _ (begun (a .args .q)) (r .result) (r .ensures .0 ourEquipment) (b .result) (b .ensures .0) in
+    closed-then ourEquipment s d _ _ (begun (a .args .q)) (b .result) carried (a .args .ends) (end .result) (end .ensures ourEquipment)
 
 pub handle-spec : {M : Type 1} → statement M
 handle-spec =

@@ -29,7 +29,7 @@ returns c =
     let s = now (a .args .s) in
     let d = now (a .args .out) in
     let r = c .before .before .before .sheet-lines in
-    (sheet-carried (a .args .q) s d d (r .result) 0 (r .ensures) (a .pre .1) (rw (c .enum-told .given .1) (wrote-none d 0 (omega arith))), r .ensures .stuck)
+    (λ e. sheet-carried e (a .args .q) s d d (r .result) 0 (r .ensures) (a .pre .1) (rw (c .enum-told .given .1) (wrote-none d 0 (omega arith))), r .ensures .stuck)
 
 same-length : tie.Need-same-length
 same-length c = search needs
@@ -40,7 +40,7 @@ returns-2 c =
     let s = now (a .args .s) in
     let d = now (a .args .out) in
     let r = c .before .before .before .before .before .before .before .before .sheet-lines in
-    (sheet-carried (a .args .q) s d _ (r .result) _ (r .ensures) (a .pre .1) (rw (c .before .before .before .before .before .check .given .1) (c .before .before .put-refused .ensures)), r .ensures .stuck)
+    (λ e. sheet-carried e (a .args .q) s d _ (r .result) _ (r .ensures) (a .pre .1) (rw (c .before .before .before .before .before .check .given .1) (c .before .before .put-refused .ensures)), r .ensures .stuck)
 
 pub on-sheet-spec : {M : Type 1} → statement M
 on-sheet-spec =

@@ -5,6 +5,7 @@ use mathlib.Core.Bool.{false≢true}
 use native.Mathlib.Omega.{arith}
 use denote.Ref.{now}
 use borrow.Author.Tests.{not-true, not-false}
+use Rattle.rules.specs.Regions.{ourEquipment}
 use Rattle.respond.proofs.Whole.{wild, taken-low, fit-part, part-inside, short-left, responds}
 use borrow.Author.Needs.{needs}
 use Rattle.respond.proofs.respond.Statement.{statement}
@@ -20,13 +21,13 @@ returns : tie.Need-returns
 returns c =
     let a = c .before .before .before .before .before .args in
     let k = c .before .before .sensible in
-    (wild (a .state) (now (a .block)) (a .last) (now (a .out)) (c .stop .result) (sym (k .ensures) ∙ not-true (k .result) (c .before .if1 .taken)) (c .stop .ensures), ((omega arith, omega arith), λ room going none. absurd (false≢true (sym going))))
+    (wild ourEquipment (a .state) (now (a .block)) (a .last) (now (a .out)) (c .stop .result) (sym (k .ensures) ∙ not-true (k .result) (c .before .if1 .taken)) (c .stop .ensures), ((omega arith, omega arith), λ room going none. absurd (false≢true (sym going))))
 
 sub-budget : tie.Need-sub-budget
 sub-budget c =
     let a = c .before .before .before .before .before .args in
     let k = c .before .before .sensible in
-    taken-low (a .state) (now (a .block)) (a .last) (sym (k .ensures) ∙ not-false (k .result) (c .before .if1 .left))
+    taken-low ourEquipment (a .state) (now (a .block)) (a .last) (sym (k .ensures) ∙ not-false (k .result) (c .before .if1 .left))
 
 least-requires : tie.Need-least-requires
 least-requires c κs = search needs
@@ -48,7 +49,7 @@ handle-requires c κs =
     let a = c .before .before .before .before .before .before .before .before .before .args in
     let k = c .before .before .before .before .before .before .sensible in
     let l = c .before .before .before .least in
-    fit-part (a .state) (now (a .block)) (a .last) (sym (k .ensures) ∙ not-false (k .result) (c .before .before .before .before .before .if1 .left)) (l .result) (l .ensures)
+    fit-part ourEquipment (a .state) (now (a .block)) (a .last) (sym (k .ensures) ∙ not-false (k .result) (c .before .before .before .before .before .if1 .left)) (l .result) (l .ensures)
 
 same-length : tie.Need-same-length
 same-length c = search needs
@@ -61,8 +62,8 @@ returns-2 c =
     let e = c .before .before .before .before .before .before .either in
     let r = c .before .before .before .handle in
     let told = sym (k .ensures) ∙ not-false (k .result) (c .before .before .before .before .before .before .before .before .before .if1 .left) in
-    let whole = responds (a .state) (now (a .block)) (a .last) told (l .result) (l .ensures) (e .result) (e .ensures) (now (a .out)) _ (r .result) (r .ensures) in
-    (whole, ((part-inside (now (a .block)) (l .result) (r .result .at) (r .ensures .inside), r .ensures .wrote .inside), short-left (a .state) (now (a .block)) (a .last) told (now (a .out)) _ _ whole))
+    let whole = responds ourEquipment (a .state) (now (a .block)) (a .last) told (l .result) (l .ensures) (e .result) (e .ensures) (now (a .out)) _ (r .result) (r .ensures) in
+    (whole, ((part-inside (now (a .block)) (l .result) (r .result .at) (r .ensures .inside), r .ensures .wrote .inside), short-left ourEquipment (a .state) (now (a .block)) (a .last) told (now (a .out)) _ _ whole))
 
 pub respond-spec : {M : Type 1} → statement M
 respond-spec =

@@ -15,7 +15,9 @@ volts-requires c κs = search needs
 
 returns : tie.Need-returns
 unfolding sensed
-returns c = simp (le-leb (c .before .before .before .before .args .code) lastCode (omega arith), c .volts .ensures)
+returns c =
+    let code = c .before .before .before .before .args .code in
+    simp (le-leb code lastCode (omega arith), c .volts .ensures, c .before .before .table .ensures code (c .before .before .before .if1 .taken))
 
 returns-2 : tie.Need-returns-2
 unfolding sensed

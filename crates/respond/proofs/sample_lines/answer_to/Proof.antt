@@ -1,7 +1,9 @@
 -- `respond::sample_lines::answer_to` meets its contract.
 -- Assumes nothing.
 use mathlib.Core.Path.{sym, _∙_}
+use denote.Ref.{now}
 use borrow.Author.Tests.{not-true, not-false}
+use Rattle.rules.specs.Regions.{equippedWith}
 use borrow.Author.Needs.{needs}
 use Rattle.respond.proofs.sample_lines.answer_to.Statement.{statement}
 use Rattle.respond.proofs.sample_lines.answer_to.Tie as tie
@@ -12,12 +14,12 @@ returns c = rw (not-true (c .before .before .args .x .found) (c .if1 .taken))
 refused-settings-requires : tie.Need-refused-settings-requires
 refused-settings-requires c κs =
     let start = c .before .before .before in
-    sym (start .pre .1) ∙ not-true (start .args .fine) (c .if2 .taken)
+    sym (start .pre) ∙ not-true (start .args .fine) (c .if2 .taken)
 
 returns-2 : tie.Need-returns-2
 returns-2 c =
     let start = c .before .before .before .before in
-    rw (not-false (start .args .x .found) (c .before .before .if1 .left)) (c .refused-settings .ensures (start .args .x .slice))
+    rw (not-false (start .args .x .found) (c .before .before .if1 .left)) (c .refused-settings .ensures (equippedWith (now (start .args .table))) (start .args .x .slice))
 
 slice-aggregate-step-accepted : tie.Need-slice-aggregate-step-accepted
 slice-aggregate-step-accepted c = search needs
@@ -25,7 +27,7 @@ slice-aggregate-step-accepted c = search needs
 step-accepted-requires : tie.Need-step-accepted-requires
 step-accepted-requires c κs =
     let start = c .before .before .before .before .before in
-    (start .pre .0, sym (start .pre .1) ∙ not-false (start .args .fine) (c .before .before .if2 .left))
+    sym (start .pre) ∙ not-false (start .args .fine) (c .before .before .if2 .left)
 
 returns-3 : tie.Need-returns-3
 returns-3 c =

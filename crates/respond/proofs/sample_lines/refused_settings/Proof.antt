@@ -19,13 +19,13 @@ enum-told c = search needs
 
 returns : tie.Need-returns
 returns c =
-    λ x.
+    λ e x.
     let start = c .before .before .before .before in
-    sym (settings-refused (start .args .s) x (start .args .b) _ _ (sym (c .before .before .before .check .ensures) ∙ c .before .cause .given .1))
+    sym (settings-refused e (start .args .s) x (start .args .b) _ _ (sym (c .before .before .before .check .ensures) ∙ c .before .cause .given .1))
 
 returns-2 : tie.Need-returns-2
 returns-2 c =
-    λ x.
+    λ e x.
     let start = c .before .before .before in
     absurd (false≢true (sym (start .pre) ∙ ap isAccepted (sym (c .before .before .check .ensures) ∙ c .enum-told .given .1)))
 

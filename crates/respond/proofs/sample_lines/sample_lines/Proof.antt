@@ -7,6 +7,7 @@ use native.Mathlib.Omega.{arith}
 use denote.Ref.{now}
 use Prim.Native.Nat.{_+_, _-_}
 use lib.ListN.{length}
+use Rattle.rules.specs.Regions.{equippedWith}
 use Rattle.respond.proofs.Buffers.{wrote-length}
 use Rattle.respond.proofs.SampleLines.{Going, here, beginning, stops, room, next-is, goes-on}
 use borrow.Author.Needs.{needs}
@@ -15,7 +16,7 @@ use Rattle.respond.proofs.sample_lines.sample_lines.Tie as tie
 
 abbrev Inv-loop : tie.InvT-loop
 Inv-loop table h s out₀ q settings fine form board₀ line₀ long₀ at₀ w₀ going₀ out board line long at w going =
-    Going s out₀ h out (here h board line long at w) going
+    Going (equippedWith table) s out₀ h out (here h board line long at w) going
 
 abbrev μ-loop : tie.MeasureT-loop
 μ-loop table h s out₀ q settings fine form board₀ line₀ long₀ at₀ w₀ going₀ out board line long at w going =
@@ -30,7 +31,7 @@ sample-form-requires c κs = search needs
 loop-holds : tie.Need-loop-holds Inv-loop μ-loop
 loop-holds c =
     let a = c .before .before .before .before .before .before .before in
-    beginning (now (a .args .s)) (now (a .args .out)) (a .args .h) (a .pre .1) (a .pre .2) (a .pre .3) (a .pre .4)
+    beginning (equippedWith (now (a .args .table))) (now (a .args .s)) (now (a .args .out)) (a .args .h) (a .pre .0) (a .pre .1) (a .pre .2) (a .pre .3)
 
 slice-aggregate-line-at : tie.Need-slice-aggregate-line-at Inv-loop μ-loop
 slice-aggregate-line-at c = search needs
@@ -45,7 +46,7 @@ fits-requires : tie.Need-fits-requires Inv-loop μ-loop
 fits-requires c κs = search needs
 
 answer-to-requires : tie.Need-answer-to-requires Inv-loop μ-loop
-answer-to-requires c κs = (c .before .before .before .before .before .before .before .before .before .before .before .before .before .pre .0, c .before .before .before .before .before .before .before .before .accepted .ensures)
+answer-to-requires c κs = c .before .before .before .before .before .before .before .before .accepted .ensures
 
 put-answer-requires : tie.Need-put-answer-requires Inv-loop μ-loop
 put-answer-requires c κs =
@@ -53,9 +54,10 @@ put-answer-requires c κs =
     let a = c .before .before .before .before .before .before .before .before .before .before .before .before .before .before .before .before .args in
     let s = now (a .s) in
     let d = now (a .out) in
-    let before = subst (Going s d (a .h) (w .out) (here (a .h) (w .board) (w .line) (w .long) (w .at) (w .w))) (c .before .before .before .before .before .before .before .loop-test .taken) (w .inv) in
+    let e = equippedWith (now (a .table)) in
+    let before = subst (Going e s d (a .h) (w .out) (here (a .h) (w .board) (w .line) (w .long) (w .at) (w .w))) (c .before .before .before .before .before .before .before .loop-test .taken) (w .inv) in
     let x = c .before .before .before .before .before .line-at in
-    room s d (a .h) (w .out) (w .board) (w .line) (w .long) (w .at) (w .w) before (x .result) (x .ensures) (sym (c .before .before .before .before .fits2 .ensures) ∙ c .before .before .before .if1 .taken)
+    room e s d (a .h) (w .out) (w .board) (w .line) (w .long) (w .at) (w .w) before (x .result) (x .ensures) (sym (c .before .before .before .before .fits2 .ensures) ∙ c .before .before .before .if1 .taken)
 
 add-line : tie.Need-add-line Inv-loop μ-loop
 add-line c = let f = c .before .before .before .before .before .before .before .before .before .before .before .loop .inv .carried .stands .fit in omega (arith, f .low, f .high)
@@ -66,11 +68,12 @@ loop-less c =
     let a = c .before .before .before .before .before .before .before .before .before .before .before .before .before .before .before .before .before .before .before .args in
     let s = now (a .s) in
     let d = now (a .out) in
-    let before = subst (Going s d (a .h) (w .out) (here (a .h) (w .board) (w .line) (w .long) (w .at) (w .w))) (c .before .before .before .before .before .before .before .before .before .before .loop-test .taken) (w .inv) in
+    let e = equippedWith (now (a .table)) in
+    let before = subst (Going e s d (a .h) (w .out) (here (a .h) (w .board) (w .line) (w .long) (w .at) (w .w))) (c .before .before .before .before .before .before .before .before .before .before .loop-test .taken) (w .inv) in
     let x = c .before .before .before .before .before .before .before .before .line-at in
-    let next = next-is s d (a .h) (w .out) (w .board) (w .line) (w .long) (w .at) (w .w) before (x .result) (x .ensures) (sym (c .before .before .before .before .before .before .before .fits2 .ensures) ∙ c .before .before .before .before .before .before .if1 .taken) in
+    let next = next-is e s d (a .h) (w .out) (w .board) (w .line) (w .long) (w .at) (w .w) before (x .result) (x .ensures) (sym (c .before .before .before .before .before .before .before .fits2 .ensures) ∙ c .before .before .before .before .before .before .if1 .taken) in
     let r = c .before .before .before .before .before .answer-to in
-    let on = goes-on s d (a .h) (w .out) (w .board) (w .line) (w .long) (w .at) (w .w) before (x .result) (x .ensures) (sym (c .before .before .before .before .before .before .before .fits2 .ensures) ∙ c .before .before .before .before .before .before .if1 .taken) (r .result) (r .ensures) _ _ (c .before .before .put-answer .ensures) in
+    let on = goes-on e s d (a .h) (w .out) (w .board) (w .line) (w .long) (w .at) (w .w) before (x .result) (x .ensures) (sym (c .before .before .before .before .before .before .before .fits2 .ensures) ∙ c .before .before .before .before .before .before .if1 .taken) (r .result) (r .ensures) _ _ (c .before .before .put-answer .ensures) in
     rw (c .before .before .before .before .before .before .if1 .taken, c .before .before .before .before .before .before .before .before .before .before .loop-test .taken) (omega (arith, next, on .carried .stands .inside))
 
 loop-again : tie.Need-loop-again Inv-loop μ-loop
@@ -79,10 +82,11 @@ loop-again c =
     let a = c .before .before .before .before .before .before .before .before .before .before .before .before .before .before .before .before .before .before .before .args in
     let s = now (a .s) in
     let d = now (a .out) in
-    let before = subst (Going s d (a .h) (w .out) (here (a .h) (w .board) (w .line) (w .long) (w .at) (w .w))) (c .before .before .before .before .before .before .before .before .before .before .loop-test .taken) (w .inv) in
+    let e = equippedWith (now (a .table)) in
+    let before = subst (Going e s d (a .h) (w .out) (here (a .h) (w .board) (w .line) (w .long) (w .at) (w .w))) (c .before .before .before .before .before .before .before .before .before .before .loop-test .taken) (w .inv) in
     let x = c .before .before .before .before .before .before .before .before .line-at in
     let r = c .before .before .before .before .before .answer-to in
-    rw (c .before .before .before .before .before .before .if1 .taken) (goes-on s d (a .h) (w .out) (w .board) (w .line) (w .long) (w .at) (w .w) before (x .result) (x .ensures) (sym (c .before .before .before .before .before .before .before .fits2 .ensures) ∙ c .before .before .before .before .before .before .if1 .taken) (r .result) (r .ensures) _ _ (c .before .before .put-answer .ensures))
+    rw (c .before .before .before .before .before .before .if1 .taken) (goes-on e s d (a .h) (w .out) (w .board) (w .line) (w .long) (w .at) (w .w) before (x .result) (x .ensures) (sym (c .before .before .before .before .before .before .before .fits2 .ensures) ∙ c .before .before .before .before .before .before .if1 .taken) (r .result) (r .ensures) _ _ (c .before .before .put-answer .ensures))
 
 loop-less-2 : tie.Need-loop-less-2 Inv-loop μ-loop
 loop-less-2 c = rw (c .if1 .left, c .before .before .before .before .loop-test .taken) (omega arith)
@@ -93,9 +97,10 @@ loop-again-2 c =
     let a = c .before .before .before .before .before .before .before .before .before .before .before .before .before .args in
     let s = now (a .s) in
     let d = now (a .out) in
-    let before = subst (Going s d (a .h) (w .out) (here (a .h) (w .board) (w .line) (w .long) (w .at) (w .w))) (c .before .before .before .before .loop-test .taken) (w .inv) in
+    let e = equippedWith (now (a .table)) in
+    let before = subst (Going e s d (a .h) (w .out) (here (a .h) (w .board) (w .line) (w .long) (w .at) (w .w))) (c .before .before .before .before .loop-test .taken) (w .inv) in
     let x = c .before .before .line-at in
-    rw (c .if1 .left) (stops s d (a .h) (w .out) (w .board) (w .line) (w .long) (w .at) (w .w) before (x .result) (x .ensures) (sym (c .before .fits2 .ensures) ∙ c .if1 .left))
+    rw (c .if1 .left) (stops e s d (a .h) (w .out) (w .board) (w .line) (w .long) (w .at) (w .w) before (x .result) (x .ensures) (sym (c .before .fits2 .ensures) ∙ c .if1 .left))
 
 sub-t27 : tie.Need-sub-t27 Inv-loop μ-loop
 sub-t27 c = c .before .before .loop .inv .carried .stands .later

@@ -14,7 +14,7 @@ returns c =
     let s = now (a .args .s) in
     let d = now (a .args .out) in
     let h = a .args .h in
-    done-stays (a .args .ends) s d h (a .pre .0) (a .pre .1) (c .if1 .taken)
+    λ e. done-stays e (a .args .ends) s d h (a .pre .0) (a .pre .1) (c .if1 .taken)
 
 sub-if2 : tie.Need-sub-if2
 sub-if2 c = search needs
@@ -25,7 +25,7 @@ returns-2 c =
     let s = now (a .args .s) in
     let d = now (a .args .out) in
     let h = a .args .h in
-    full-stays (a .args .ends) s d h (a .pre .0) (a .pre .1) (omega arith)
+    λ e. full-stays e (a .args .ends) s d h (a .pre .0) (a .pre .1) (omega arith)
 
 sub-n : tie.Need-sub-n
 sub-n c = search needs
@@ -45,7 +45,7 @@ returns-3 c =
     let s = now (a .args .s) in
     let d = now (a .args .out) in
     let h = a .args .h in
-    closes (a .args .ends) s d h (a .pre .0) (a .pre .1) (omega arith) (omega arith) (a .pre .3) (c .before .before .before .before .before .if3 .taken) _ _ (c .before .before .before .put-end .ensures) (c .stop .result) (c .stop .ensures)
+    λ e. closes e (a .args .ends) s d h (a .pre .0) (a .pre .1) (omega arith) (omega arith) (a .pre .3) (c .before .before .before .before .before .if3 .taken) _ _ (c .before .before .before .put-end .ensures) (c .stop .result) (c .stop .ensures)
 
 either-requires : tie.Need-either-requires
 either-requires c κs = search needs
@@ -59,7 +59,7 @@ returns-4 c =
     let s = now (a .args .s) in
     let d = now (a .args .out) in
     let h = a .args .h in
-    drops (a .args .ends) s d h (a .pre .0) (a .pre .1) (omega arith) (omega arith) (a .pre .3) (c .before .before .before .if3 .left) (sym (c .before .before .either .ensures) ∙ c .before .if4 .taken) (c .drop-bytes .result) (c .drop-bytes .ensures)
+    λ e. drops e (a .args .ends) s d h (a .pre .0) (a .pre .1) (omega arith) (omega arith) (a .pre .3) (c .before .before .before .if3 .left) (sym (c .before .before .either .ensures) ∙ c .before .if4 .taken) (c .drop-bytes .result) (c .drop-bytes .ensures)
 
 returns-5 : tie.Need-returns-5
 returns-5 c =
@@ -67,7 +67,7 @@ returns-5 c =
     let s = now (a .args .s) in
     let d = now (a .args .out) in
     let h = a .args .h in
-    waits (a .args .ends) s d h (a .pre .0) (a .pre .1) (omega arith) (omega arith) (a .pre .3) (c .before .before .if3 .left) (sym (c .before .either .ensures) ∙ c .if4 .left)
+    λ e. waits e (a .args .ends) s d h (a .pre .0) (a .pre .1) (omega arith) (omega arith) (a .pre .3) (c .before .before .if3 .left) (sym (c .before .either .ensures) ∙ c .if4 .left)
 
 pub tail-spec : {M : Type 1} → statement M
 tail-spec =

@@ -16,12 +16,12 @@ use Rattle.service.proofs.powers.powers_in.Tie as tie
 returns : tie.Need-returns
 unfolding varsOf wattsOf within
 returns c =
-    (λ x q. simp (lt-leb _ _ (c .if1 .taken)), ((λ x q. simp (lt-leb _ _ (c .if1 .taken))), (omega arith, omega arith)))
+    (λ e x q. simp (lt-leb _ _ (c .if1 .taken)), ((λ e x q. simp (lt-leb _ _ (c .if1 .taken))), (omega arith, omega arith)))
 
 returns-2 : tie.Need-returns-2
 unfolding varsOf wattsOf within
 returns-2 c =
-    (λ x q. simp (le-leb _ _ (c .before .if1 .left), lt-leb _ _ (c .if2 .taken)), ((λ x q. simp (le-leb _ _ (c .before .if1 .left), lt-leb _ _ (c .if2 .taken))), (omega arith, omega arith)))
+    (λ e x q. simp (le-leb _ _ (c .before .if1 .left), lt-leb _ _ (c .if2 .taken)), ((λ e x q. simp (le-leb _ _ (c .before .if1 .left), lt-leb _ _ (c .if2 .taken))), (omega arith, omega arith)))
 
 volt-var-requires : tie.Need-volt-var-requires
 volt-var-requires c κs =
@@ -48,7 +48,7 @@ returns-3 c =
     let a = c .before .before .before .before .before .before .before .before .before .before .before .args in
     let vars = c .before .before .before .before .before .volt-var in
     let same : toZ w32 (ofZ w32 (vars .result)) ≡ vars .result = kept32 (vars .result) (vars .ensures .1) in
-    (λ x q. same ∙ vars-are (a .s) x (a .r) (a .status) (a .share) q (omega arith) (omega arith) (vars .result) (vars .ensures .0), ((λ x q. watts-are (a .s) x (a .r) (a .status) (a .share) q (omega arith) (omega arith) (vars .result) (c .within-nameplate .result) (c .before .before .before .before .volt-watt .result) (vars .ensures .0) (c .before .before .before .before .volt-watt .ensures .0) (rw (c .within-nameplate .ensures, c .before .least3 .ensures, c .before .before .least2 .ensures, c .before .before .before .least .ensures, same))), (omega (arith, c .within-nameplate .ensures, c .before .least3 .ensures, c .before .before .before .least .ensures, c .before .before .before .before .before .before .before .before .before .before .before .pre), rw same (vars .ensures .1))))
+    (λ e x q. same ∙ vars-are e (a .s) x (a .r) (a .status) (a .share) q (omega arith) (omega arith) (vars .result) (vars .ensures .0), ((λ e x q. watts-are e (a .s) x (a .r) (a .status) (a .share) q (omega arith) (omega arith) (vars .result) (c .within-nameplate .result) (c .before .before .before .before .volt-watt .result) (vars .ensures .0) (c .before .before .before .before .volt-watt .ensures .0) (rw (c .within-nameplate .ensures, c .before .least3 .ensures, c .before .before .least2 .ensures, c .before .before .before .least .ensures, same))), (omega (arith, c .within-nameplate .ensures, c .before .least3 .ensures, c .before .before .before .least .ensures, c .before .before .before .before .before .before .before .before .before .before .before .pre), rw same (vars .ensures .1))))
 
 pub powers-in-spec : {M : Type 1} → statement M
 powers-in-spec =

@@ -55,7 +55,7 @@ nine-counters c = search needs
 
 returns : tie.Need-returns
 returns c =
-    λ x q.
+    λ e x regions q.
     let a = c .before .before .before .before .before .before .before .before .before .args in
     let cs = c .before .before .before .before .before .before .count-all in
     let was = c .before .before .before .before .before .in-service in
@@ -64,16 +64,16 @@ returns c =
     let even = c .before .before .is-continuous in
     let ramp = c .before .ramp-after in
     let nine : length (a .b .counters) ≡ 9 = nine-counters (c .before .before .before .before .before .before .before .before .before) in
-    let n-is : cs .result .n ≡ each (counted []) (rulesAt (readingOf x) (a .s)) (a .b .counters)
+    let n-is : cs .result .n ≡ each (counted []) (rulesAt (readingOf e x) (a .s)) (a .b .counters)
     = subst (λ (y : Reading). cs .result .n ≡ each (counted []) (rulesAt y (a .s)) (a .b .counters)) (sym q) (cs .ensures .0) in
-    let packed : cs .result .bits ≡ packedAfter 0 (each full (rulesAt (readingOf x) (a .s)) (cs .result .n))
+    let packed : cs .result .bits ≡ packedAfter 0 (each full (rulesAt (readingOf e x) (a .s)) (cs .result .n))
     = subst (λ (y : Reading). cs .result .bits ≡ packedAfter 0 (each full (rulesAt y (a .s)) (cs .result .n))) (sym q) (cs .ensures .1) in
-    let bits = bits-next (a .s) x (a .b) nine (cs .result .n) (cs .result .bits) (was .result) (on .result) (ramp .result) packed in
-    let region-is = region-of x (a .r) q (area .result) (area .ensures) in
+    let bits = bits-next e (a .s) x (a .b) nine (cs .result .n) (cs .result .bits) (was .result) (on .result) (ramp .result) packed in
+    let region-is = region-of e x (a .r) regions q ∙ sym (area .ensures) in
     let permit : a .r .permit ≡ permitted x = ap (λ (y : Reading). y .permit) (sym q) in
     let ramp-is = ramp .ensures ∙ ap (λ (t : Bool). ramped (was .result) (on .result) t (a .s .ramp) (cond (was .result) (min (a .s .ramp) (a .b .ramp)) 0)) (even .ensures ∙ ap isContinuous (sym region-is)) in
-    c .settle .ensures x q region-is bits
-    ∙ ap (reported (a .s)) (advance-is (a .s) x (a .b) nine (cs .result .n) (cs .result .bits) (was .result) (on .result) (ramp .result) n-is bits (was .ensures) (λ trips ready e. on .ensures trips ready e ∙ ap (λ (t : Bool). serves (was .result) t (any trips) ready) permit) ramp-is)
+    c .settle .ensures e x q region-is bits
+    ∙ ap (reported e (a .s)) (advance-is e (a .s) x (a .b) nine (cs .result .n) (cs .result .bits) (was .result) (on .result) (ramp .result) n-is bits (was .ensures) (λ trips ready k. on .ensures trips ready k ∙ ap (λ (t : Bool). serves (was .result) t (any trips) ready) permit) ramp-is)
 
 pub advance-spec : {M : Type 1} → statement M
 advance-spec =

@@ -29,12 +29,12 @@ cast-t16 c = search needs
 
 returns : tie.Need-returns
 returns c =
-    λ x q area bits.
+    λ e x q area bits.
     let a = c .before .before .before .before .before .before .before .args in
     let p = c .before .before .before .before .powers-in in
     let back = kept16 (p .result .vars) (p .ensures .1 .1 .1) in
     rw back
-    (settle-is (a .s) x (a .c .n) (a .on) (a .area) (a .c .bits) (a .ramp) (c .before .before .before .before .before .before .status-of .result) (c .before .before .before .before .before .share .result) (p .result .watts) (p .result .vars) area bits (c .before .before .before .before .before .before .status-of .ensures) (c .before .before .before .before .before .share .ensures .0) (p .ensures .0 x q) (p .ensures .1 .0 x q))
+    (settle-is e (a .s) x (a .c .n) (a .on) (a .area) (a .c .bits) (a .ramp) (c .before .before .before .before .before .before .status-of .result) (c .before .before .before .before .before .share .result) (p .result .watts) (p .result .vars) area bits (c .before .before .before .before .before .before .status-of .ensures) (c .before .before .before .before .before .share .ensures .0) (p .ensures .0 e x q) (p .ensures .1 .0 e x q))
 
 pub settle-spec : {M : Type 1} → statement M
 settle-spec =

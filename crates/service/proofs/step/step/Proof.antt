@@ -3,7 +3,10 @@
 use mathlib.Core.Path.{sym, ap, _∙_}
 use denote.Ref.{now}
 use Rattle.rules.specs.Settings.{isAccepted}
+use Rattle.rules.specs.Regions.{ourEquipment, equippedWith}
+use Rattle.laws.proofs.Alike.{step-alike}
 use Rattle.service.proofs.Stepping.{settings-refused}
+use Rattle.service.proofs.OurTable.{table-alike}
 use borrow.Author.Needs.{needs}
 use Rattle.service.proofs.step.step.Statement.{statement}
 use Rattle.service.proofs.step.step.Tie as tie
@@ -22,15 +25,19 @@ table-requires c κs = search needs
 
 step-accepted-requires : tie.Need-step-accepted-requires
 step-accepted-requires c κs =
-    (c .before .table .ensures, ap isAccepted (sym (c .before .before .before .before .check .ensures) ∙ c .before .before .enum-told .given .1))
+    ap isAccepted (sym (c .before .before .before .before .check .ensures) ∙ c .before .before .enum-told .given .1)
 
 returns : tie.Need-returns
 returns c =
     let s = c .before .before .before .before .before in
-    sym (settings-refused (s .args .s) (now (s .args .x)) (s .args .b) _ _ (sym (c .before .before .before .check .ensures) ∙ c .before .cause .given .1))
+    sym (settings-refused ourEquipment (s .args .s) (now (s .args .x)) (s .args .b) _ _ (sym (c .before .before .before .check .ensures) ∙ c .before .cause .given .1))
 
 returns-2 : tie.Need-returns-2
-returns-2 c = search needs
+returns-2 c =
+    let s = c .before .before .before .before .before .before .before in
+    let t = c .before .before .table in
+    c .step-accepted .ensures
+    ∙ step-alike (equippedWith (t .result)) ourEquipment (table-alike (t .result) (t .ensures)) (s .args .b) (s .args .s) (now (s .args .x))
 
 pub step-spec : {M : Type 1} → statement M
 step-spec =

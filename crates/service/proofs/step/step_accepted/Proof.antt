@@ -1,10 +1,10 @@
 -- `service::step::step_accepted` meets its contract: an accepted sample is a step, and a refused one changes nothing.
 -- Assumes nothing.
-use mathlib.Core.Path.{_≡_, sym, ap, _∙_}
+use mathlib.Core.Path.{_≡_, refl, sym, ap, _∙_}
 use mathlib.Core.Bool.{true}
 use denote.Ref.{now}
 use Rattle.rules.specs.Samples.{isAccepted, sampleAccepted}
-use Rattle.rules.specs.Regions.{ourEquipment}
+use Rattle.rules.specs.Regions.{equippedWith}
 use Rattle.laws.proofs.Accepted.{sample-right}
 use Rattle.laws.proofs.Demand2.{accepted-step}
 use Rattle.service.proofs.Stepping.{sample-refused}
@@ -23,26 +23,27 @@ enum-told c = search needs
 
 read-requires : tie.Need-read-requires
 read-requires c κs =
-    (c .before .before .before .before .pre .0, ap isAccepted (sym (c .before .before .check .ensures) ∙ c .enum-told .given .1))
+    ap isAccepted (sym (c .before .before .check .ensures) ∙ c .enum-told .given .1)
 
 advance-requires : tie.Need-advance-requires
 advance-requires c κs =
     let s = c .before .before .before .before .before in
     let ok : sampleAccepted (now (s .args .x)) ≡ true = ap isAccepted (sym (c .before .before .before .check .ensures) ∙ c .before .enum-told .given .1) in
     let right = sample-right (now (s .args .x)) ok in
-    rw (c .read .ensures) (record { sheet = s .pre .1; available-top = right .available-top; limit-top = right .limit-top })
+    rw (c .read .ensures) (record { sheet = s .pre; available-top = right .available-top; limit-top = right .limit-top })
 
 returns : tie.Need-returns
 returns c =
     let s = c .before .before .before .before .before in
-    sym (sample-refused (s .args .s) (now (s .args .x)) (s .args .b) _ (s .pre .1) (sym (c .before .before .before .check .ensures) ∙ c .before .cause .given .1))
+    sym (sample-refused (equippedWith (now (s .args .table))) (s .args .s) (now (s .args .x)) (s .args .b) _ (s .pre) (sym (c .before .before .before .check .ensures) ∙ c .before .cause .given .1))
 
 returns-2 : tie.Need-returns-2
 returns-2 c =
     let s = c .before .before .before .before .before .before in
     let ok : sampleAccepted (now (s .args .x)) ≡ true = ap isAccepted (sym (c .before .before .before .before .check .ensures) ∙ c .before .before .enum-told .given .1) in
-    c .advance .ensures (now (s .args .x)) (sym (c .before .read .ensures))
-    ∙ sym (accepted-step ourEquipment (s .args .b) (s .args .s) (now (s .args .x)) (s .pre .1) ok)
+    let e = equippedWith (now (s .args .table)) in
+    c .advance .ensures e (now (s .args .x)) refl (sym (c .before .read .ensures))
+    ∙ sym (accepted-step e (s .args .b) (s .args .s) (now (s .args .x)) (s .pre) ok)
 
 pub step-accepted-spec : {M : Type 1} → statement M
 step-accepted-spec =

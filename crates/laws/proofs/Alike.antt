@@ -1,0 +1,123 @@
+-- Equipments with the same voltages for the codes that are accepted, and the same regions, step alike.
+-- Assumes nothing.
+use mathlib.Core.Path.{_≡_, refl, ap, ap₂, _∙_}
+use mathlib.Core.Bool.{Bool, true, false, _&&_}
+use mathlib.Core.List.{List, [], _∷_}
+use Prim.Native.Nat.{ℕ, suc}
+use lib.IntN.{ℤ}
+use Rattle.rules.specs.Settings.{settingsCheck, isAccepted, settingsAccepted, limitAt}
+use Rattle.rules.specs.Samples.{Slice, Equipment, codeOf, phase, lowest, highest, mean, sampleCheck}
+use Rattle.rules.specs.Samples as samples
+use Rattle.rules.specs.Counters.{Kind, undervoltage, overvoltage, underfrequency, overfrequency, kinds, counted, broken, inRange, limitRules, tripRules, readyRule, rules}
+use Rattle.rules.specs.Regions.{regionOf}
+use Rattle.rules.specs.Service.{varsOf, wattsOf}
+use Rattle.rules.specs.Reports.{Items, reportOf}
+use Rattle.rules.specs.Records.{each, readAs, settled, ruled, next, shown, onSample, onSettings, stepOf}
+use Rattle.rules.specs.declared.Settings.{Settings}
+use Rattle.rules.specs.declared.Board.{Board}
+use Rattle.rules.specs.declared.Region.{Region}
+use Rattle.rules.specs.declared.SettingsCheck.{SettingsCheck}
+use Rattle.rules.specs.declared.SampleCheck.{SampleCheck}
+use Rattle.rules.specs.declared.Answer.{Answer}
+use Rattle.rules.specs.declared.Stepped.{Stepped}
+use Rattle.claims.specs.Alike.{Alike}
+use Rattle.laws.proofs.Accepted.{SampleRight, sample-right}
+use Rattle.laws.proofs.SameRules.{SameRules, same-append, counted-same, full-same, capped-same}
+
+module _ (e f : Equipment) (a : Alike e f) (x : Slice) (r : SampleRight x) where
+  -- ---- what is read from the sample
+
+  phase0 : phase e x 0 ≡ phase f x 0
+  phase0 = a .sensing (codeOf x 0) (r .code0)
+
+  phase1 : phase e x 1 ≡ phase f x 1
+  phase1 = a .sensing (codeOf x 1) (r .code1)
+
+  phase2 : phase e x 2 ≡ phase f x 2
+  phase2 = a .sensing (codeOf x 2) (r .code2)
+
+  lowest-alike : lowest e x ≡ lowest f x
+  lowest-alike = rw (phase0, phase1, phase2)
+
+  highest-alike : highest e x ≡ highest f x
+  highest-alike = rw (phase0, phase1, phase2)
+
+  mean-alike : mean e x ≡ mean f x
+  mean-alike = rw (phase0, phase1, phase2)
+
+  region-alike : regionOf e x ≡ regionOf f x
+  unfolding regionOf
+  region-alike = rw (lowest-alike, highest-alike, a .region (lowest f x), a .region (highest f x))
+
+  -- ---- the nine rules
+
+  broken-alike : (k : Kind) (level : ℕ) → broken e k level x ≡ broken f k level x
+  unfolding broken
+  broken-alike undervoltage level = rw lowest-alike
+  broken-alike overvoltage level = rw highest-alike
+  broken-alike underfrequency level = refl
+  broken-alike overfrequency level = refl
+
+  module _ (st : Settings) where
+    limits-alike : (i : ℕ) (ks : List Kind) → SameRules x (limitRules e st i ks) x (limitRules f st i ks)
+    limits-alike i [] = tt
+    limits-alike i (k ∷ ks) = ((broken-alike k (limitAt st i .level), refl), limits-alike (suc i) ks)
+
+    range-alike : inRange e st x ≡ inRange f st x
+    unfolding inRange
+    range-alike = rw (lowest-alike, highest-alike)
+
+    trips-alike : SameRules x (tripRules e st) x (tripRules f st)
+    trips-alike = limits-alike 0 kinds
+
+    rules-alike : SameRules x (rules e st) x (rules f st)
+    rules-alike = same-append x (tripRules e st) x (tripRules f st) (readyRule e st) (readyRule f st) trips-alike (range-alike, refl)
+
+    -- ---- the step
+
+    vars-alike : (status : ℕ) → varsOf e st x status ≡ varsOf f st x status
+    unfolding varsOf
+    vars-alike status = rw mean-alike
+
+    watts-alike : (status share : ℕ) → wattsOf e st x status share ≡ wattsOf f st x status share
+    unfolding wattsOf
+    watts-alike status share = rw (mean-alike, vars-alike status)
+
+    settled-alike : (counters : List ℕ) (on : Bool) (ramp : ℕ) → settled e st x counters on ramp ≡ settled f st x counters on ramp
+    unfolding settled
+    settled-alike counters on ramp = rw (region-alike, watts-alike, vars-alike)
+
+    read-alike : (b : Board) → readAs e st b ≡ readAs f st b
+    unfolding readAs
+    read-alike b = rw (capped-same x x (rules e st) (rules f st) (b .counters) rules-alike)
+
+    ruled-alike : (b : Board) → ruled e st x b ≡ ruled f st x b
+    unfolding ruled
+    ruled-alike b =
+        let n = each (counted x) (rules f st) (b .counters) in
+        let counts = counted-same x x (rules e st) (rules f st) (b .counters) rules-alike in
+        let bits = full-same x x (tripRules e st) (tripRules f st) n trips-alike in
+        rw (counts, region-alike, settled-alike, bits)
+
+    next-alike : (b : Board) → next e st x b ≡ next f st x b
+    unfolding next
+    next-alike b = ruled-alike (readAs e st b) ∙ ap (ruled f st x) (read-alike b)
+
+    shown-alike : (b : Board) → shown e st b ≡ shown f st b
+    unfolding shown
+    shown-alike b = rw (full-same x x (rules e st) (rules f st) (b .counters) rules-alike)
+
+module _ (e f : Equipment) (a : Alike e f) where
+  sample-alike : (b : Board) (st : Settings) (x : Slice) (k : SampleCheck) → sampleCheck x ≡ k → onSample e st x b k ≡ onSample f st x b k
+  sample-alike b st x (SampleCheck.Refused cause) p = refl
+  sample-alike b st x SampleCheck.Accepted p =
+      let r = sample-right x (ap samples.isAccepted p) in
+      rw (next-alike e f a x r st b, shown-alike e f a x r st (next f st x b))
+
+  settings-alike : (b : Board) (st : Settings) (x : Slice) (k : SettingsCheck) → onSettings e st x b k ≡ onSettings f st x b k
+  settings-alike b st x (SettingsCheck.Refused cause line) = refl
+  settings-alike b st x SettingsCheck.Accepted = sample-alike b st x (sampleCheck x) refl
+
+  pub step-alike : (b : Board) (st : Settings) (x : Slice) → stepOf e b st x ≡ stepOf f b st x
+  unfolding stepOf
+  step-alike b st x = settings-alike b st x (settingsCheck st)
