@@ -9,6 +9,7 @@ use libc::STDOUT_FILENO;
 use program::State;
 use respond::respond;
 use respond::start;
+use respond::within_budget;
 
 fn both(a: bool, b: bool) -> bool
     ensures { λ r. ⌜ r ≡ (a && b) ⌝ }
@@ -48,12 +49,6 @@ fn answer(q: State, block: &[u8], last: bool, out: &mut [u8]) -> Answered
     Answered { state, at, going }
 }
 
-fn least(a: usize, b: u64) -> usize
-    ensures { λ r. ⌜ (r ≤ a) × (r ≤ b) ⌝ }
-{
-    if (a as u64) < b { a } else { b as usize }
-}
-
 // How many bytes came, none at the input's end, and whether the read failed.
 struct Got {
     bytes: usize,
@@ -65,7 +60,7 @@ fn read_to(buf: &mut [u8], have: usize, budget: u64) -> Got
     requires { ⌜ have < length (now buf) ⌝ }
     ensures { λ r. ⌜ (have + r .bytes ≤ length (now (buf .entry))) × (r .bytes ≤ budget) ⌝ }
 {
-    let end = have + least(buf.len() - have, budget);
+    let end = have + within_budget(buf.len() - have, budget);
     let got = libc::read(STDIN_FILENO, &mut buf[have..end]);
     let bytes = io::count(got, &buf[have..end]);
     Got {

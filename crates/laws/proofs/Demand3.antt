@@ -6,7 +6,7 @@ use mathlib.Core.List.{List, [], _∷_, map}
 use Prim.Native.Nat.{ℕ, _≤_, _<_, zero-le}
 use native.Mathlib.Omega.{arith}
 use lib.IntN.{ℤ, pos, negsuc, natAbs}
-use lib.ListN.{length, take, drop}
+use lib.ListN.{length, take, drop, getD}
 use lib.Seq.{take-at}
 use mir.Syntax.{w16}
 use mir.Val.{SFits}
@@ -15,7 +15,7 @@ use Rattle.rules.specs.Settings.{settingsAccepted}
 use Rattle.rules.specs.Samples.{Slice, Equipment, mean, sampleAccepted}
 use Rattle.rules.specs.Counters.{Rule, rules}
 use Rattle.rules.specs.Curves.{curve}
-use Rattle.rules.specs.Service.{inService, exports, varsOf, least, wattsOf}
+use Rattle.rules.specs.Service.{inService, exports, varsOf, Limited, powerLimits, least, wattsOf}
 use Rattle.rules.specs.Reports.{Items}
 use Rattle.rules.specs.Records.{next, shown}
 use Rattle.rules.specs.History.{History, followedBy, serving, historyStatus, historyShare, historyWatts, historyVars, historyReport}
@@ -31,6 +31,7 @@ use Rattle.power.proofs.PointLists.{powers-small}
 use Rattle.laws.proofs.Bools.{both}
 use Rattle.laws.proofs.Accepted.{sample-right, sheet-rows}
 use Rattle.laws.proofs.Curves.{var-rises}
+use Rattle.laws.proofs.Least.{least-below}
 use Rattle.laws.proofs.Trace.{counters-are, service-is, ramp-is, status-is, watts-is, vars-is, next-is, shown-is}
 use Rattle.laws.proofs.Demand2.{run-is}
 use Rattle.laws.proofs.Probes.{AllTellable, all-rules, rules-told}
@@ -69,11 +70,14 @@ module _ (e : Equipment) (sound : Sound e) (st : Settings) (ok : settingsAccepte
   watts-below : (h : History) → AllAccepted h → historyWatts e st h ≤ 10000
   unfolding historyWatts wattsOf
   watts-below [] a = omega arith
-  watts-below (x ∷ h) a = by (exports (historyStatus e st (x ∷ h)))
+  watts-below (x ∷ h) a =
+      let status = historyStatus e st (x ∷ h) in
+      let limits = powerLimits e st x (historyShare e st (x ∷ h)) (varsOf e st x status) in
+      by (exports status) (map (λ (l : Limited). l .watts) limits) (omega arith) (sample-right x (a .0) .available-top)
     where
-      by : (b : Bool) → cond b (least e st x (historyShare e st (x ∷ h)) (varsOf e st x (historyStatus e st (x ∷ h)))) 0 ≤ 10000
-      by true = omega (arith, sample-right x (a .0) .available-top)
-      by false = omega arith
+      by : (b : Bool) (ns : List ℕ) → 0 < length ns → getD ns 0 0 ≤ 10000 → cond b (least ns) 0 ≤ 10000
+      by true ns some low = omega (arith, least-below ns 0 some)
+      by false ns some low = omega arith
 
   vars-fit : (h : History) → SFits w16 (historyVars e st h)
   unfolding historyVars varsOf

@@ -10,6 +10,7 @@ pub mod Probes
 pub mod Ramps
 pub mod Images
 pub mod Curves
+pub mod Least
 pub mod Demand3
 pub mod SameRules
 pub mod Alike

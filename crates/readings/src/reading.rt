@@ -77,13 +77,13 @@ pub fn check(x: &[u32]) -> SampleCheck
     SampleCheck::Accepted
 }
 
-pub fn least(a: u32, b: u32) -> u32
+pub fn smaller(a: u32, b: u32) -> u32
     ensures { λ r. ⌜ r ≡ min a b ⌝ }
 {
     if a < b { a } else { b }
 }
 
-fn most(a: u32, b: u32) -> u32
+fn larger(a: u32, b: u32) -> u32
     ensures { λ r. ⌜ r ≡ max a b ⌝ }
 {
     if a < b { b } else { a }
@@ -100,8 +100,8 @@ pub fn read(table: &[u16; 4096], x: &[u32]) -> Reading
     let a = volts(table, first) as u32;
     let b = volts(table, second) as u32;
     let c = volts(table, third) as u32;
-    let low = least(a, least(b, c));
-    let high = most(a, most(b, c));
+    let low = smaller(a, smaller(b, c));
+    let high = larger(a, larger(b, c));
     let sum = a + b + c;
     let frequency = x[3];
     let permission = x[4];

@@ -89,10 +89,15 @@ fn handle(q: State, s: &[u8], ends: bool, out: &mut [u8]) -> Handled
     tail(b, s, ends, out)
 }
 
-fn least(a: usize, b: u64) -> usize
-    ensures { λ r. ⌜ r ≡ min b a ⌝ }
+// How many of these bytes the budget has room for.
+pub fn within_budget(bytes: usize, budget: u64) -> usize
+    ensures { λ r. ⌜ r ≡ min budget bytes ⌝ }
 {
-    if (a as u64) < b { a } else { b as usize }
+    if (bytes as u64) < budget {
+        bytes
+    } else {
+        budget as usize
+    }
 }
 
 // The answer to a block of input, `last` where the input ends with it: as many lines as are there and fit into the lent buffer. A line is
@@ -112,7 +117,7 @@ pub fn respond(state: State, block: &[u8], last: bool, out: &mut [u8]) -> Respon
         };
     }
     let budget = 1000000000000 - state.taken;
-    let end = least(block.len(), budget);
+    let end = within_budget(block.len(), budget);
     let ends = either(last, budget <= (block.len() as u64));
     let r = handle(state, &block[0..end], ends, out);
     let next = r.state;

@@ -1,6 +1,7 @@
 -- Document 01, "One sample", rules 4 to 6 and 8: trip and return, ramp, status, share, and the powers.
 -- Assumes nothing.
 use mathlib.Core.Bool.{Bool, true, false, cond, not, _&&_}
+use mathlib.Core.List.{List, [], _∷_, map}
 use Prim.Native.Nat.{ℕ, suc, _*_, _/_, min}
 use lib.IntN.{ℤ, pos, natAbs}
 use Rattle.rules.specs.Tests.{within}
@@ -50,10 +51,35 @@ varsOf e st x status = cond (exports status) (curve (st .var) (mean e x)) (pos 0
 abbrev pub wattCurve : Equipment → Settings → Slice → ℕ
 wattCurve e st x = natAbs (curve (st .watt) (mean e x))
 
--- "the least of available, operator's limit, share, watt curve and the largest whole p with p² + vars² at most 100,000,000"
-abbrev pub least : Equipment → Settings → Slice → ℕ → ℤ → ℕ
-least e st x share vars =
-    min (available x) (min (operatorLimit x) (min share (min (wattCurve e st x) (nameplate vars))))
+-- what limits active power, by name
+pub data PowerLimit : Type 0 where
+  availablePower operatorsLimit rampShare voltWatt nameplateRating : PowerLimit
 
+-- a limit, and the watts that it leaves
+pub record Limited : Type 0 where
+  pub limit : PowerLimit
+  pub watts : ℕ
+
+abbrev pub leaves : PowerLimit → ℕ → Limited
+leaves limit watts = record { limit = limit; watts = watts }
+
+-- the limits of a sample in their standing order, from the share and the vars
+abbrev pub powerLimits : Equipment → Settings → Slice → ℕ → ℤ → List Limited
+powerLimits e st x share vars =
+    leaves availablePower (available x)
+    ∷ leaves operatorsLimit (operatorLimit x)
+    ∷ leaves rampShare share
+    ∷ leaves voltWatt (wattCurve e st x)
+    ∷ leaves nameplateRating (nameplate vars)
+    ∷ []
+
+-- the least number of a list
+abbrev pub least : List ℕ → ℕ
+least [] = 0
+least (n ∷ []) = n
+least (n ∷ m ∷ ns) = min n (least (m ∷ ns))
+
+-- Rule 8: in statuses 1 to 3, watts are the least that a limit leaves
 unfoldable pub wattsOf : Equipment → Settings → Slice → ℕ → ℕ → ℕ
-wattsOf e st x status share = cond (exports status) (least e st x share (varsOf e st x status)) 0
+wattsOf e st x status share =
+    cond (exports status) (least (map (λ l. l .watts) (powerLimits e st x share (varsOf e st x status)))) 0

@@ -18,7 +18,7 @@ use Rattle.rules.specs.Samples.{Slice, Equipment, permitted, available, operato
 use Rattle.rules.specs.Counters.{Rule, counted, full, broken, inRange, tripRules, readyRule, rules}
 use Rattle.rules.specs.Regions.{voltageRegion, regionOf, isContinuous}
 use Rattle.rules.specs.Curves.{curve, nameplate}
-use Rattle.rules.specs.Service.{serves, ramped, statusOf, inService, shareOf, varsOf, wattCurve, wattsOf}
+use Rattle.rules.specs.Service.{serves, ramped, statusOf, inService, exports, shareOf, varsOf, wattCurve, wattsOf}
 use Rattle.rules.specs.Reports.{packedAfter, reportOf}
 use Rattle.rules.specs.Records.{each, capped, readAs, settled, ruled, next, shown, turnedAway, onSample, onSettings, stepOf}
 use Rattle.rules.specs.declared.Settings.{Settings}
@@ -29,7 +29,7 @@ use Rattle.rules.specs.declared.SettingsCheck.{SettingsCheck}
 use Rattle.rules.specs.declared.SampleCheck.{SampleCheck}
 use Rattle.rules.specs.declared.Answer.{Answer}
 use Rattle.rules.specs.declared.Stepped.{Stepped}
-use Rattle.laws.proofs.Bools.{true-within}
+use Rattle.laws.proofs.Least.{inTurn, in-turn}
 use Rattle.laws.proofs.SameRules.{SameRules, counted-same, full-same}
 use Rattle.readings.specs.declared.reading.Reading.{Reading}
 use Rattle.readings.specs.Readings.{readingOf, enters, regionAt, rulesFrom, rulesAt}
@@ -53,27 +53,25 @@ kept16 z h = ap (λ (y : ℤ). toZ w16 (ofZ w16 y)) (kept32 z h) ∙ toZ-ofZ (fi
 
 -- ---- rule 8, on a reading
 
-min-assoc : (a b c : ℕ) → min (min a b) c ≡ min a (min b c)
-min-assoc a b c = omega arith
-
-module _ (e : Equipment) (s : Settings) (x : Slice) (r : Reading) (status share : ℕ) (q : readingOf e x ≡ r) (low : 1 ≤ status) (high : status ≤ 3) where
+module _ (e : Equipment) (s : Settings) (x : Slice) (r : Reading) (q : readingOf e x ≡ r) (status : ℕ) (on : exports status ≡ true) where
   mean-is : r .sum / 3 ≡ mean e x
   mean-is = ap (λ (y : Reading). y .sum / 3) (sym q)
 
-  pub vars-are : (z : ℤ) → z ≡ curve (s .var) (r .sum / 3) → z ≡ varsOf e s x status
+  pub vars-on : (z : ℤ) → z ≡ curve (s .var) (r .sum / 3) → z ≡ varsOf e s x status
   unfolding varsOf
-  vars-are z k = rw (true-within 1 3 status low high) (k ∙ ap (curve (s .var)) mean-is)
+  vars-on z p = rw on (p ∙ ap (curve (s .var)) mean-is)
 
-  pub watts-are : (z : ℤ) (w c : ℕ) → z ≡ curve (s .var) (r .sum / 3) → c ≡ natAbs (curve (s .watt) (r .sum / 3))
-      → w ≡ min (min (min (r .available) (r .limit)) (min share c)) (nameplate z)
+  -- the limits in their standing order, one taken after the other
+  pub watts-on : (share : ℕ) (z : ℤ) (c w : ℕ) → z ≡ curve (s .var) (r .sum / 3) → c ≡ natAbs (curve (s .watt) (r .sum / 3))
+      → w ≡ inTurn (r .available) (r .limit ∷ share ∷ c ∷ nameplate z ∷ [])
       → w ≡ wattsOf e s x status share
   unfolding wattsOf
-  watts-are z w c h d m =
-      let v : nameplate z ≡ nameplate (varsOf e s x status) = ap nameplate (vars-are z h) in
-      let k : c ≡ wattCurve e s x = d ∙ ap (λ (n : ℕ). natAbs (curve (s .watt) n)) mean-is in
+  watts-on share z c w p k m =
       let a : r .available ≡ available x = ap (λ (y : Reading). y .available) (sym q) in
       let l : r .limit ≡ operatorLimit x = ap (λ (y : Reading). y .limit) (sym q) in
-      rw (true-within 1 3 status low high) (m ∙ simp (a, l, k, v, min-assoc))
+      let v : nameplate z ≡ nameplate (varsOf e s x status) = ap nameplate (vars-on z p) in
+      let d : c ≡ wattCurve e s x = k ∙ ap (λ (n : ℕ). natAbs (curve (s .watt) n)) mean-is in
+      rw on (m ∙ in-turn (r .available) (r .limit ∷ share ∷ c ∷ nameplate z ∷ []) ∙ rw (a, l, d, v))
 
 -- ---- rule 3, on a reading
 

@@ -9,7 +9,7 @@ use power::volt_var;
 use power::volt_watt;
 use power::within_nameplate;
 use readings::reading::Reading;
-use readings::reading::least;
+use readings::reading::smaller;
 use rules::Settings;
 
 pub struct Powers {
@@ -17,7 +17,8 @@ pub struct Powers {
     pub vars: i32,
 }
 
-// What a board in this status gives. In statuses 1 to 3 the curves are read at the mean voltage; in others both powers are 0.
+// What a board in this status gives. In statuses 1 to 3 the curves are read at the mean voltage, and watts are the least that a limit
+// leaves, taken in their standing order, one to a line; in others both powers are 0.
 pub fn powers_in(r: Reading, s: Settings, status: u8, share: u32) -> Powers
     requires { ⌜ Exportable r s ⌝ }
     ensures { λ p. ⌜ ((e : Equipment) (x : Slice) → readingOf e x ≡ r → p .vars ≡ varsOf e s x status) ⌝ }
@@ -35,8 +36,10 @@ pub fn powers_in(r: Reading, s: Settings, status: u8, share: u32) -> Powers
     let watt = s.watt;
     let vars = volt_var(var, v);
     let curve = volt_watt(watt, v);
-    let asked = least(r.available, r.limit);
-    let given = least(share, curve);
-    let watts = within_nameplate(least(asked, given), vars);
+    let p = r.available;
+    let p = smaller(p, r.limit);
+    let p = smaller(p, share);
+    let p = smaller(p, curve);
+    let watts = within_nameplate(p, vars);
     Powers { watts, vars }
 }

@@ -20,7 +20,7 @@ pub struct Number {
     pub next: usize,
 }
 
-fn least(a: usize, b: usize) -> usize
+fn smaller(a: usize, b: usize) -> usize
     ensures { λ r. ⌜ r ≡ min a b ⌝ }
 {
     if a < b { a } else { b }
@@ -31,7 +31,7 @@ fn digits_at(s: &[u8], at: usize) -> Digits
     requires { ⌜ at ≤ length (now s) ⌝ }
     ensures { λ r. ⌜ DigitsAt (now (s .entry)) at r ⌝ }
 {
-    let end = at + least(s.len() - at, 7);
+    let end = at + smaller(s.len() - at, 7);
     let mut value: u32 = 0;
     let mut i = at;
     while i < end {

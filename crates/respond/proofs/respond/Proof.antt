@@ -29,8 +29,8 @@ sub-budget c =
     let k = c .before .before .sensible in
     taken-low ourEquipment (a .state) (now (a .block)) (a .last) (sym (k .ensures) ∙ not-false (k .result) (c .before .if1 .left))
 
-least-requires : tie.Need-least-requires
-least-requires c κs = search needs
+within-budget-requires : tie.Need-within-budget-requires
+within-budget-requires c κs = search needs
 
 either-requires : tie.Need-either-requires
 either-requires c κs = search needs
@@ -48,7 +48,7 @@ handle-requires : tie.Need-handle-requires
 handle-requires c κs =
     let a = c .before .before .before .before .before .before .before .before .before .args in
     let k = c .before .before .before .before .before .before .sensible in
-    let l = c .before .before .before .least in
+    let l = c .before .before .before .within-budget in
     fit-part ourEquipment (a .state) (now (a .block)) (a .last) (sym (k .ensures) ∙ not-false (k .result) (c .before .before .before .before .before .if1 .left)) (l .result) (l .ensures)
 
 same-length : tie.Need-same-length
@@ -58,7 +58,7 @@ returns-2 : tie.Need-returns-2
 returns-2 c =
     let a = c .before .before .before .before .before .before .before .before .before .before .before .before .before .args in
     let k = c .before .before .before .before .before .before .before .before .before .before .sensible in
-    let l = c .before .before .before .before .before .before .before .least in
+    let l = c .before .before .before .before .before .before .before .within-budget in
     let e = c .before .before .before .before .before .before .either in
     let r = c .before .before .before .handle in
     let told = sym (k .ensures) ∙ not-false (k .result) (c .before .before .before .before .before .before .before .before .before .if1 .left) in
@@ -73,7 +73,7 @@ respond-spec =
     stop-requires
     returns
     sub-budget
-    least-requires
+    within-budget-requires
     either-requires
     sub-handle
     part-handle-start

@@ -34,17 +34,17 @@ volts-requires-3 c κs = let s = c .before .before .before .before .before .befo
 cast-c : tie.Need-cast-c
 cast-c c = search needs
 
-least-requires : tie.Need-least-requires
-least-requires c κs = search needs
+smaller-requires : tie.Need-smaller-requires
+smaller-requires c κs = search needs
 
-least-requires-2 : tie.Need-least-requires-2
-least-requires-2 c κs = search needs
+smaller-requires-2 : tie.Need-smaller-requires-2
+smaller-requires-2 c κs = search needs
 
-most-requires : tie.Need-most-requires
-most-requires c κs = search needs
+larger-requires : tie.Need-larger-requires
+larger-requires c κs = search needs
 
-most-requires-2 : tie.Need-most-requires-2
-most-requires-2 c κs = search needs
+larger-requires-2 : tie.Need-larger-requires-2
+larger-requires-2 c κs = search needs
 
 add-sum : tie.Need-add-sum
 add-sum c = let s = c .before .before .before .before .before .before .before .before .before .before .before in omega (arith, sample-right (now (s .args .x)) (s .pre))
@@ -66,7 +66,10 @@ shared-slice-read-limit c = let s = c .before .before .before .before .before .b
 
 returns : tie.Need-returns
 returns c =
-    rw (c .before .before .before .before .before .before .least2 .ensures, c .before .before .before .before .before .before .before .least .ensures, c .before .before .before .before .most2 .ensures, c .before .before .before .before .before .most .ensures, c .before .before .before .before .before .before .before .before .before .before .volts .ensures, c .before .before .before .before .before .before .before .before .before .volts2 .ensures, c .before .before .before .before .before .before .before .before .volts3 .ensures)
+    let high = c .before .before .before .before in
+    let low = high .before .before in
+    let volts = low .before .before in
+    rw (low .smaller2 .ensures, low .before .smaller .ensures, high .larger2 .ensures, high .before .larger .ensures, volts .before .before .volts .ensures, volts .before .volts2 .ensures, volts .volts3 .ensures)
 
 pub read-spec : {M : Type 1} → statement M
 read-spec =
@@ -81,10 +84,10 @@ read-spec =
     cast-b
     volts-requires-3
     cast-c
-    least-requires
-    least-requires-2
-    most-requires
-    most-requires-2
+    smaller-requires
+    smaller-requires-2
+    larger-requires
+    larger-requires-2
     add-sum
     add-sum-2
     shared-slice-read-frequency

@@ -1,14 +1,22 @@
--- `service::powers::powers_in` meets its contract: an accepted sheet's curves rise, and the least of the five is the rule's (`Stepping.antt`).
+-- `service::powers::powers_in` meets its contract: an accepted sheet's curves rise, and the limits, taken in turn, leave their least
+-- (`Stepping.antt`).
 -- Assumes nothing.
 use mathlib.Core.Path.{_≡_, _∙_}
+use mathlib.Core.Bool.{true}
+use mathlib.Core.List.{[], _∷_}
+use Prim.Native.Nat.{_≤_}
+use native.Mathlib.Nat.{le-trans}
 use native.Mathlib.Omega.{arith}
 use mir.Syntax.{w32}
 use mir.Val.{toZ, ofZ}
 use borrow.Author.Tests.{le-leb, lt-leb}
 use Rattle.rules.specs.Tests.{within}
-use Rattle.rules.specs.Service.{varsOf, wattsOf}
+use Rattle.rules.specs.Curves.{nameplate}
+use Rattle.rules.specs.Service.{exports, varsOf, wattsOf}
+use Rattle.laws.proofs.Bools.{true-within}
 use Rattle.laws.proofs.Curves.{var-rises, watt-rises, watt-not-negatives}
-use Rattle.service.proofs.Stepping.{kept32, vars-are, watts-are}
+use Rattle.laws.proofs.Least.{inTurn, in-turn-low}
+use Rattle.service.proofs.Stepping.{kept32, vars-on, watts-on}
 use borrow.Author.Needs.{needs}
 use Rattle.service.proofs.powers.powers_in.Statement.{statement}
 use Rattle.service.proofs.powers.powers_in.Tie as tie
@@ -31,24 +39,40 @@ volt-watt-requires : tie.Need-volt-watt-requires
 volt-watt-requires c κs =
     (watt-rises (c .before .before .before .before .before .before .args .s) (c .before .before .before .before .before .before .pre .sheet), watt-not-negatives (c .before .before .before .before .before .before .args .s) (c .before .before .before .before .before .before .pre .sheet))
 
-least-requires : tie.Need-least-requires
-least-requires c κs = search needs
+smaller-requires : tie.Need-smaller-requires
+smaller-requires c κs = search needs
 
-least-requires-2 : tie.Need-least-requires-2
-least-requires-2 c κs = search needs
+smaller-requires-2 : tie.Need-smaller-requires-2
+smaller-requires-2 c κs = search needs
 
-least-requires-3 : tie.Need-least-requires-3
-least-requires-3 c κs = search needs
+smaller-requires-3 : tie.Need-smaller-requires-3
+smaller-requires-3 c κs = search needs
 
 within-nameplate-requires : tie.Need-within-nameplate-requires
 within-nameplate-requires c κs = search needs
 
 returns-3 : tie.Need-returns-3
 returns-3 c =
-    let a = c .before .before .before .before .before .before .before .before .before .before .before .args in
-    let vars = c .before .before .before .before .before .volt-var in
+    let p₃ = c .before in
+    let p₂ = p₃ .before in
+    let p₁ = p₂ .before in
+    let curve = p₁ .before .volt-watt in
+    let vars = p₁ .before .before .volt-var in
+    let tests = p₁ .before .before .before .before .before .before in
+    let a = tests .before .before .args in
+    let pre = tests .before .before .pre in
+    let on : exports (a .status) ≡ true = true-within 1 3 (a .status) (tests .before .if1 .left) (tests .if2 .left) in
     let same : toZ w32 (ofZ w32 (vars .result)) ≡ vars .result = kept32 (vars .result) (vars .ensures .1) in
-    (λ e x q. same ∙ vars-are e (a .s) x (a .r) (a .status) (a .share) q (omega arith) (omega arith) (vars .result) (vars .ensures .0), ((λ e x q. watts-are e (a .s) x (a .r) (a .status) (a .share) q (omega arith) (omega arith) (vars .result) (c .within-nameplate .result) (c .before .before .before .before .volt-watt .result) (vars .ensures .0) (c .before .before .before .before .volt-watt .ensures .0) (rw (c .within-nameplate .ensures, c .before .least3 .ensures, c .before .before .least2 .ensures, c .before .before .before .least .ensures, same))), (omega (arith, c .within-nameplate .ensures, c .before .least3 .ensures, c .before .before .before .least .ensures, c .before .before .before .before .before .before .before .before .before .before .before .pre), rw same (vars .ensures .1))))
+    let others = a .r .limit ∷ a .share ∷ curve .result ∷ nameplate (vars .result) ∷ [] in
+    let turns : c .within-nameplate .result ≡ inTurn (a .r .available) others
+    = rw (c .within-nameplate .ensures, p₃ .smaller3 .ensures, p₂ .smaller2 .ensures, p₁ .smaller .ensures, same) in
+    let low : c .within-nameplate .result ≤ 10000 = rw turns (le-trans (in-turn-low (a .r .available) others) (pre .available-top)) in (
+      (λ e x q. same ∙ vars-on e (a .s) x (a .r) q (a .status) on (vars .result) (vars .ensures .0)),
+      (
+        (λ e x q. watts-on e (a .s) x (a .r) q (a .status) on (a .share) (vars .result) (curve .result) _ (vars .ensures .0) (curve .ensures .0) turns),
+        (low, rw same (vars .ensures .1)),
+      ),
+    )
 
 pub powers-in-spec : {M : Type 1} → statement M
 powers-in-spec =
@@ -58,8 +82,8 @@ powers-in-spec =
     returns-2
     volt-var-requires
     volt-watt-requires
-    least-requires
-    least-requires-2
-    least-requires-3
+    smaller-requires
+    smaller-requires-2
+    smaller-requires-3
     within-nameplate-requires
     returns-3)

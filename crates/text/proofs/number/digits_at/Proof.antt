@@ -16,11 +16,11 @@ Inv-loop s at end value₀ i₀ value i = Run s at value i × (i ≤ end) × (en
 abbrev μ-loop : tie.MeasureT-loop
 μ-loop s at end value₀ i₀ value i = end - i
 
-sub-least : tie.Need-sub-least Inv-loop μ-loop
-sub-least c = search needs
+sub-smaller : tie.Need-sub-smaller Inv-loop μ-loop
+sub-smaller c = search needs
 
-least-requires : tie.Need-least-requires Inv-loop μ-loop
-least-requires c κs = search needs
+smaller-requires : tie.Need-smaller-requires Inv-loop μ-loop
+smaller-requires c κs = search needs
 
 add-end : tie.Need-add-end Inv-loop μ-loop
 add-end c = search needs
@@ -28,7 +28,7 @@ add-end c = search needs
 loop-holds : tie.Need-loop-holds Inv-loop μ-loop
 loop-holds c =
     let a = c .before .before .args in
-    (run-start (a .s .now) (a .at), omega arith, ap (λ (k : ℕ). a .at + k) (c .least .ensures))
+    (run-start (a .s .now) (a .at), omega arith, ap (λ (k : ℕ). a .at + k) (c .smaller .ensures))
 
 shared-slice-read-b : tie.Need-shared-slice-read-b Inv-loop μ-loop
 shared-slice-read-b c = search needs
@@ -85,8 +85,8 @@ digits-at-spec =
     (tie.spec
     Inv-loop
     μ-loop
-    sub-least
-    least-requires
+    sub-smaller
+    smaller-requires
     add-end
     loop-holds
     shared-slice-read-b

@@ -1,0 +1,32 @@
+-- The least number of a list: not above any of them, and found by taking them one after the other.
+-- Assumes nothing.
+use mathlib.Core.Path.{_≡_, refl, _∙_}
+use mathlib.Core.List.{List, [], _∷_}
+use Prim.Native.Nat.{ℕ, zero, suc, _≤_, _<_, min}
+use native.Mathlib.Nat.{not-suc-le-zero, le-of-suc-le-suc}
+use native.Mathlib.Omega.{arith}
+use lib.ListN.{length, getD}
+use Rattle.rules.specs.Service.{least}
+
+pub least-below : (ns : List ℕ) (i : ℕ) → i < length ns → least ns ≤ getD ns i 0
+least-below [] i h = absurd (not-suc-le-zero h)
+least-below (n ∷ []) zero h = omega arith
+least-below (n ∷ []) (suc i) h = absurd (not-suc-le-zero (le-of-suc-le-suc h))
+least-below (n ∷ m ∷ ns) zero h = omega arith
+least-below (n ∷ m ∷ ns) (suc i) h = omega (arith, least-below (m ∷ ns) i (le-of-suc-le-suc h))
+
+-- the smaller of n and the first of the others, then of that and the next, and so on
+abbrev pub inTurn : ℕ → List ℕ → ℕ
+inTurn n [] = n
+inTurn n (m ∷ ns) = inTurn (min n m) ns
+
+least-both : (n m : ℕ) (ns : List ℕ) → least (min n m ∷ ns) ≡ min n (least (m ∷ ns))
+least-both n m [] = refl
+least-both n m (k ∷ ns) = omega arith
+
+pub in-turn : (n : ℕ) (ns : List ℕ) → inTurn n ns ≡ least (n ∷ ns)
+in-turn n [] = refl
+in-turn n (m ∷ ns) = in-turn (min n m) ns ∙ least-both n m ns
+
+pub in-turn-low : (n : ℕ) (ns : List ℕ) → inTurn n ns ≤ n
+in-turn-low n ns = rw (in-turn n ns) (least-below (n ∷ ns) 0 (omega arith))
