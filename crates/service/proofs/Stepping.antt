@@ -1,6 +1,6 @@
 -- The parts of a step, put together: what `settle` and `advance` make is what the rules make of a record.
 -- Assumes nothing.
-use mathlib.Core.Path.{_≡_, refl, sym, ap, ap₂, _∙_}
+use mathlib.Core.Path.{_≡_, refl, sym, ap, ap₂, subst, _∙_}
 use mathlib.Core.Bool.{Bool, true, false, cond, false≢true}
 use mathlib.Core.List.{List, [], _∷_, _++_}
 use Prim.Native.Nat.{ℕ, zero, suc, _*_, _/_, _≤_, min}
@@ -33,7 +33,8 @@ use Rattle.laws.proofs.Least.{inTurn, in-turn}
 use Rattle.laws.proofs.SameRules.{SameRules, counted-same, full-same}
 use Rattle.readings.specs.declared.reading.Reading.{Reading}
 use Rattle.readings.specs.Readings.{readingOf, enters, regionAt, rulesFrom, rulesAt}
-use Rattle.service.specs.Steps.{Bits, reported}
+use Rattle.readings.proofs.Counting.{rules-length}
+use Rattle.service.specs.Steps.{Bits}
 
 -- ---- a power fits the record's fields
 
@@ -73,46 +74,15 @@ module _ (e : Equipment) (s : Settings) (x : Slice) (r : Reading) (q : readingOf
       let d : c ≡ wattCurve e s x = k ∙ ap (λ (n : ℕ). natAbs (curve (s .watt) n)) mean-is in
       rw on (m ∙ in-turn (r .available) (r .limit ∷ share ∷ c ∷ nameplate z ∷ []) ∙ rw (a, l, d, v))
 
--- ---- rule 3, on a reading
-
-pub region-of : (e : Equipment) (x : Slice) (r : Reading) → e .region ≡ voltageRegion → readingOf e x ≡ r → regionOf e x ≡ regionAt r
-unfolding regionOf
-region-of e x r regions q = rw regions (ap regionAt q)
-
--- ---- rules 5 to 8
-
--- a record and a report, from their parts
-abbrev pub made : ℕ → List ℕ → ℕ → ℕ → ℕ → ℕ → ℤ → Stepped
-made status counters bits ramp share watts vars =
-    record {
-      board = record { status = status; counters = counters; ramp = ramp; watts = watts; vars = vars };
-      answer = Answer.Reported (record { status = status; bits = bits; share = share; watts = watts; vars = vars });
-    }
-
-module _ (e : Equipment) (s : Settings) (x : Slice) (n : List ℕ) (on : Bool) (area : Region) (bits ramp status share watts : ℕ) (vars : ℤ) where
-  pub settle-is : regionOf e x ≡ area → Bits e s n bits
-      → status ≡ statusOf on area (eqb ramp (s .ramp))
-      → share ≡ 10000 * ramp / s .ramp
-      → vars ≡ varsOf e s x status
-      → watts ≡ wattsOf e s x status share
-      → made status n bits ramp share watts vars ≡ reported e s (settled e s x n on ramp)
-  unfolding settled shown reportOf
-  settle-is p b q r v w =
-      let q′ : status ≡ statusOf on (regionOf e x) (eqb ramp (s .ramp)) = q ∙ ap (λ (a : Region). statusOf on a (eqb ramp (s .ramp))) (sym p) in
-      let v′ : vars ≡ varsOf e s x (statusOf on (regionOf e x) (eqb ramp (s .ramp))) = v ∙ ap (varsOf e s x) q′ in
-      let w′ : watts ≡ wattsOf e s x (statusOf on (regionOf e x) (eqb ramp (s .ramp))) (shareOf s ramp)
-      = w ∙ ap₂ (wattsOf e s x) q′ r in
-      parts q′ b r w′ v′
-    where
-      parts : {a a′ d d′ g g′ f f′ : ℕ} {z z′ : ℤ} → a ≡ a′ → d ≡ d′ → g ≡ g′ → f ≡ f′ → z ≡ z′ → made a n d ramp g f z ≡ made a′ n d′ ramp g′ f′ z′
-      parts e₁ e₂ e₃ e₄ e₅ = rw (e₁, e₂, e₃, e₄, e₅)
-
 -- ---- rules 1 and 2, on a reading and on the sample
 
-same-rules : (e : Equipment) (s : Settings) (x : Slice) → SameRules x (rules e s) [] (rulesAt (readingOf e x) s)
-unfolding rulesFrom broken inRange enters
-same-rules e s x =
-    ((refl, refl), ((refl, refl), ((refl, refl), ((refl, refl), ((refl, refl), ((refl, refl), ((refl, refl), ((refl, refl), ((refl, refl), tt)))))))))
+same-rules : (e : Equipment) (s : Settings) (x : Slice) (r : Reading) → readingOf e x ≡ r → SameRules x (rules e s) [] (rulesAt r s)
+same-rules e s x r q = subst (λ (y : Reading). SameRules x (rules e s) [] (rulesAt y s)) q read
+  where
+    read : SameRules x (rules e s) [] (rulesAt (readingOf e x) s)
+    read =
+        unfold rulesFrom broken inRange enters in
+        ((refl, refl), ((refl, refl), ((refl, refl), ((refl, refl), ((refl, refl), ((refl, refl), ((refl, refl), ((refl, refl), ((refl, refl), tt)))))))))
 
 -- a count that is read as its top counts on alike
 counted-capped : (x : Slice) (rs : List Rule) (ns : List ℕ) → each (counted x) rs (each capped rs ns) ≡ each (counted x) rs ns
@@ -158,50 +128,64 @@ kept-service status = by (inService status) refl
     by true p = p
     by false p = refl
 
-module _ (e : Equipment) (s : Settings) (x : Slice) (b : Board) (nine : length (b .counters) ≡ 9) (n : List ℕ) (bits : ℕ) (was on : Bool) (ramp : ℕ) where
-  counters-next : n ≡ each (counted []) (rulesAt (readingOf e x) s) (b .counters) → n ≡ each (counted x) (rules e s) (readAs e s b .counters)
+-- what `advance` works out before it settles the record and the report
+pub record Found : Type 0 where
+  pub counters : List ℕ
+  pub bits : ℕ
+  pub was : Bool
+  pub on : Bool
+  pub area : Region
+  pub even : Bool
+  pub ramp : ℕ
+
+-- what its parts promise of that, for a reading r and a record b
+pub record Promised (s : Settings) (r : Reading) (b : Board) (f : Found) : Type 0 where
+  pub counts : f .counters ≡ each (counted []) (rulesAt r s) (b .counters)
+  pub marks : f .bits ≡ packedAfter 0 (each full (rulesAt r s) (f .counters))
+  pub before : f .was ≡ inService (b .status)
+  pub after : (trips : List Bool) (ready : Bool) → f .bits ≡ packedAfter 0 (trips ++ (ready ∷ [])) → f .on ≡ serves (f .was) (r .permit) (any trips) ready
+  pub place : f .area ≡ regionAt r
+  pub steady : f .even ≡ isContinuous (f .area)
+  pub climb : f .ramp ≡ ramped (f .was) (f .on) (f .even) (s .ramp) (cond (f .was) (min (s .ramp) (b .ramp)) 0)
+
+module _ (e : Equipment) (s : Settings) (x : Slice) (r : Reading) (regions : e .region ≡ voltageRegion) (q : readingOf e x ≡ r)
+    (b : Board) (nine : length (b .counters) ≡ 9) (f : Found) (p : Promised s r b f) where
+  pub region-found : regionOf e x ≡ f .area
+  unfolding regionOf
+  region-found = rw regions (ap regionAt q ∙ sym (p .place))
+
+  pub bits-found : Bits e s (f .counters) (f .bits)
+  bits-found = p .marks ∙ ap (packedAfter 0) (sym (full-same x [] (rules e s) (rulesAt r s) (f .counters) (same-rules e s x r q)))
+
+  counters-are : f .counters ≡ each (counted x) (rules e s) (readAs e s b .counters)
   unfolding readAs
-  counters-next p =
-      p ∙ sym (counted-same x [] (rules e s) (rulesAt (readingOf e x) s) (b .counters) (same-rules e s x))
+  counters-are =
+      p .counts ∙ sym (counted-same x [] (rules e s) (rulesAt r s) (b .counters) (same-rules e s x r q))
       ∙ sym (counted-capped x (rules e s) (b .counters))
 
-  pub bits-next : bits ≡ packedAfter 0 (each full (rulesAt (readingOf e x) s) n) → Bits e s n bits
-  bits-next p = p ∙ ap (packedAfter 0) (sym (full-same x [] (rules e s) (rulesAt (readingOf e x) s) n (same-rules e s x)))
+  nine-found : length (f .counters) ≡ 9
+  nine-found = ap length (p .counts) ∙ each-length (counted []) (rulesAt r s) (b .counters) 9 (rules-length r s) nine
 
-  pub advance-is : n ≡ each (counted []) (rulesAt (readingOf e x) s) (b .counters)
-      → Bits e s n bits
-      → was ≡ inService (b .status)
-      → ((trips : List Bool) (ready : Bool) → bits ≡ packedAfter 0 (trips ++ (ready ∷ [])) → on ≡ serves was (permitted x) (any trips) ready)
-      → ramp ≡ ramped was on (isContinuous (regionOf e x)) (s .ramp) (cond was (min (s .ramp) (b .ramp)) 0)
-      → settled e s x n on ramp ≡ next e s x b
+  was-is : f .was ≡ inService (readAs e s b .status)
+  unfolding readAs
+  was-is = p .before ∙ sym (kept-service (b .status))
+
+  on-is : f .on ≡ serves (f .was) (permitted x) (any (each full (tripRules e s) (f .counters))) (full (readyRule e s) (getD (f .counters) 8 0))
+  on-is =
+      let trips = each full (tripRules e s) (f .counters) in
+      let ready = full (readyRule e s) (getD (f .counters) 8 0) in
+      let split : each full (rules e s) (f .counters) ≡ trips ++ (ready ∷ [])
+      = full-last (tripRules e s) (readyRule e s) (f .counters) 8 refl nine-found in
+      p .after trips ready (bits-found ∙ ap (packedAfter 0) split)
+      ∙ ap (λ (y : Reading). serves (f .was) (y .permit) (any trips) ready) (sym q)
+
+  ramp-is : f .ramp ≡ ramped (f .was) (f .on) (isContinuous (regionOf e x)) (s .ramp) (readAs e s b .ramp)
+  unfolding readAs
+  ramp-is = p .climb ∙ rw (p .steady, region-found, p .before)
+
+  pub advance-is : settled e s x (f .counters) (f .on) (f .ramp) ≡ next e s x b
   unfolding next ruled
-  advance-is e₁ e₂ e₃ e₄ e₅ =
-      let long : length n ≡ 9 = ap length e₁ ∙ each-length (counted []) (rulesAt (readingOf e x) s) (b .counters) 9 rules-long nine in
-      let split : each full (rules e s) n ≡ each full (tripRules e s) n ++ (full (readyRule e s) (getD n 8 0) ∷ [])
-      = full-last (tripRules e s) (readyRule e s) n 8 refl long in
-      let on-is : on ≡ serves was (permitted x) (any (each full (tripRules e s) n)) (full (readyRule e s) (getD n 8 0))
-      = e₄ (each full (tripRules e s) n) (full (readyRule e s) (getD n 8 0)) (e₂ ∙ ap (packedAfter 0) split) in
-      let was-is : was ≡ inService (readAs e s b .status) = e₃ ∙ sym (read-service) in
-      let ramp-is : ramp ≡ ramped was on (isContinuous (regionOf e x)) (s .ramp) (readAs e s b .ramp)
-      = e₅ ∙ ap (ramped was on (isContinuous (regionOf e x)) (s .ramp)) (ap (λ (t : Bool). cond t (min (s .ramp) (b .ramp)) 0) e₃ ∙ sym read-ramp) in
-      whole n was on ramp (counters-next e₁) was-is on-is ramp-is
-    where
-      rules-long : length (rulesAt (readingOf e x) s) ≡ 9
-      rules-long = unfold rulesFrom in refl
-
-      read-service : inService (readAs e s b .status) ≡ inService (b .status)
-      read-service = unfold readAs in kept-service (b .status)
-
-      read-ramp : readAs e s b .ramp ≡ cond (inService (b .status)) (min (s .ramp) (b .ramp)) 0
-      read-ramp = unfold readAs in refl
-
-      whole : (m : List ℕ) (w o : Bool) (r : ℕ)
-          → m ≡ each (counted x) (rules e s) (readAs e s b .counters)
-          → w ≡ inService (readAs e s b .status)
-          → o ≡ serves w (permitted x) (any (each full (tripRules e s) m)) (full (readyRule e s) (getD m 8 0))
-          → r ≡ ramped w o (isContinuous (regionOf e x)) (s .ramp) (readAs e s b .ramp)
-          → settled e s x m o r ≡ ruled e s x (readAs e s b)
-      whole m w o r p q t u = rw (u, t, q, p)
+  advance-is = rw (ramp-is, on-is, was-is, counters-are)
 
 -- ---- refused calls
 

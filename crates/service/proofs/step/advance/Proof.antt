@@ -1,22 +1,10 @@
 -- `service::step::advance` meets its contract: its parts, put together, are what the rules make of the record (`Stepping.antt`).
 -- Assumes nothing.
-use mathlib.Core.Path.{_≡_, sym, ap, subst, _∙_}
-use mathlib.Core.Bool.{Bool, cond}
-use mathlib.Core.List.{[]}
-use Prim.Native.Nat.{min}
+use mathlib.Core.Path.{_≡_, sym, ap, _∙_}
 use lib.ListN.{length}
-use Rattle.rules.specs.Tests.{any}
-use Rattle.rules.specs.Samples.{permitted}
-use Rattle.rules.specs.Counters.{counted, full}
-use Rattle.rules.specs.Regions.{isContinuous}
-use Rattle.rules.specs.Service.{serves, ramped}
-use Rattle.rules.specs.Reports.{packedAfter}
-use Rattle.rules.specs.Records.{each}
-use Rattle.readings.specs.declared.reading.Reading.{Reading}
-use Rattle.readings.specs.Readings.{readingOf, rulesAt}
 use Rattle.readings.proofs.Ordinary.{ordinary}
 use Rattle.service.specs.Steps.{reported}
-use Rattle.service.proofs.Stepping.{ramp-top, region-of, bits-next, advance-is}
+use Rattle.service.proofs.Stepping.{ramp-top, Found, Promised, region-found, bits-found, advance-is}
 use borrow.Author.Needs.{needs}
 use Rattle.service.proofs.step.advance.Statement.{statement}
 use Rattle.service.proofs.step.advance.Tie as tie
@@ -48,7 +36,13 @@ ramp-after-requires c κs = search needs
 
 settle-requires : tie.Need-settle-requires
 settle-requires c κs =
-    (c .before .before .before .before .before .before .before .before .pre, rw (c .ramp-after .ensures) (ramp-top (c .before .before .before .before .in-service .result) (c .before .before .before .in-service-after .result) (c .before .is-continuous .result) (c .before .before .before .before .before .before .before .before .args .s .ramp) (c .before .before .before .before .before .before .before .before .args .b .ramp)))
+    let even = c .before in
+    let on = even .before .before in
+    let was = on .before in
+    let start = was .before .before .before .before in
+    let a = start .args in
+    let top = ramp-top (was .in-service .result) (on .in-service-after .result) (even .is-continuous .result) (a .s .ramp) (a .b .ramp) in
+    (start .pre, rw (c .ramp-after .ensures) top)
 
 nine-counters : (c : tie.Start) → length (c .args .b .counters) ≡ 9
 nine-counters c = search needs
@@ -56,24 +50,38 @@ nine-counters c = search needs
 returns : tie.Need-returns
 returns c =
     λ e x regions q.
-    let a = c .before .before .before .before .before .before .before .before .before .args in
-    let cs = c .before .before .before .before .before .before .count-all in
-    let was = c .before .before .before .before .before .in-service in
-    let on = c .before .before .before .before .in-service-after in
-    let area = c .before .before .before .region in
-    let even = c .before .before .is-continuous in
-    let ramp = c .before .ramp-after in
-    let nine : length (a .b .counters) ≡ 9 = nine-counters (c .before .before .before .before .before .before .before .before .before) in
-    let n-is : cs .result .n ≡ each (counted []) (rulesAt (readingOf e x) (a .s)) (a .b .counters)
-    = subst (λ (y : Reading). cs .result .n ≡ each (counted []) (rulesAt y (a .s)) (a .b .counters)) (sym q) (cs .ensures .0) in
-    let packed : cs .result .bits ≡ packedAfter 0 (each full (rulesAt (readingOf e x) (a .s)) (cs .result .n))
-    = subst (λ (y : Reading). cs .result .bits ≡ packedAfter 0 (each full (rulesAt y (a .s)) (cs .result .n))) (sym q) (cs .ensures .1) in
-    let bits = bits-next e (a .s) x (a .b) nine (cs .result .n) (cs .result .bits) (was .result) (on .result) (ramp .result) packed in
-    let region-is = region-of e x (a .r) regions q ∙ sym (area .ensures) in
-    let permit : a .r .permit ≡ permitted x = ap (λ (y : Reading). y .permit) (sym q) in
-    let ramp-is = ramp .ensures ∙ ap (λ (t : Bool). ramped (was .result) (on .result) t (a .s .ramp) (cond (was .result) (min (a .s .ramp) (a .b .ramp)) 0)) (even .ensures ∙ ap isContinuous (sym region-is)) in
+    let ramp = c .before in
+    let even = ramp .before in
+    let area = even .before in
+    let on = area .before in
+    let was = on .before in
+    let cs = was .before in
+    let start = cs .before .before .before in
+    let a = start .args in
+    let found : Found
+    = record {
+      counters = cs .count-all .result .n;
+      bits = cs .count-all .result .bits;
+      was = was .in-service .result;
+      on = on .in-service-after .result;
+      area = area .region .result;
+      even = even .is-continuous .result;
+      ramp = ramp .ramp-after .result;
+    } in
+    let promised : Promised (a .s) (a .r) (a .b) found
+    = record {
+      counts = cs .count-all .ensures .0;
+      marks = cs .count-all .ensures .1;
+      before = was .in-service .ensures;
+      after = on .in-service-after .ensures;
+      place = area .region .ensures;
+      steady = even .is-continuous .ensures;
+      climb = ramp .ramp-after .ensures;
+    } in
+    let region-is = region-found e (a .s) x (a .r) regions q (a .b) (nine-counters start) found promised in
+    let bits = bits-found e (a .s) x (a .r) regions q (a .b) (nine-counters start) found promised in
     c .settle .ensures e x q region-is bits
-    ∙ ap (reported e (a .s)) (advance-is e (a .s) x (a .b) nine (cs .result .n) (cs .result .bits) (was .result) (on .result) (ramp .result) n-is bits (was .ensures) (λ trips ready k. on .ensures trips ready k ∙ ap (λ (t : Bool). serves (was .result) t (any trips) ready) permit) ramp-is)
+    ∙ ap (reported e (a .s)) (advance-is e (a .s) x (a .r) regions q (a .b) (nine-counters start) found promised)
 
 pub advance-spec : {M : Type 1} → statement M
 advance-spec =

@@ -2,7 +2,9 @@
 -- Assumes nothing.
 use native.Mathlib.Omega.{arith}
 use Rattle.laws.proofs.Accepted.{sheet-rows}
-use Rattle.service.proofs.Stepping.{fits16, kept32, kept16, settle-is}
+use Rattle.rules.specs.Reports.{reportOf}
+use Rattle.rules.specs.Records.{settled, shown}
+use Rattle.service.proofs.Stepping.{fits16, kept32, kept16}
 use borrow.Author.Needs.{needs}
 use Rattle.service.proofs.step.settle.Statement.{statement}
 use Rattle.service.proofs.step.settle.Tie as tie
@@ -27,14 +29,16 @@ cast-vars c =
 cast-t16 : tie.Need-cast-t16
 cast-t16 c = search needs
 
+-- one equation for each field that is worked out here
 returns : tie.Need-returns
+unfolding settled shown reportOf
 returns c =
-    λ e x q area bits.
-    let a = c .before .before .before .before .before .before .before .args in
+    λ e x q region bits.
     let p = c .before .before .before .before .powers-in in
-    let back = kept16 (p .result .vars) (p .ensures .1 .1 .1) in
-    rw back
-    (settle-is e (a .s) x (a .c .n) (a .on) (a .area) (a .c .bits) (a .ramp) (c .before .before .before .before .before .before .status-of .result) (c .before .before .before .before .before .share .result) (p .result .watts) (p .result .vars) area bits (c .before .before .before .before .before .before .status-of .ensures) (c .before .before .before .before .before .share .ensures .0) (p .ensures .0 e x q) (p .ensures .1 .0 e x q))
+    let share = c .before .before .before .before .before .share in
+    let status = c .before .before .before .before .before .before .status-of in
+    let vars = kept16 (p .result .vars) (p .ensures .1 .1 .1) in
+    rw (vars, p .ensures .1 .0 e x q, p .ensures .0 e x q, share .ensures .0, status .ensures, region, bits)
 
 pub settle-spec : {M : Type 1} → statement M
 settle-spec =
