@@ -7,7 +7,7 @@ use Prim.Native.Nat.{ℕ, suc, max}
 use native.Mathlib.Omega.{arith}
 use lib.Dec.{leb}
 use lib.IntN.{ℤ}
-use borrow.Author.Tests.{le-ltb, lt-leb}
+use borrow.Author.Tests.{lt-leb}
 use Rattle.rules.specs.Tests.{any, within}
 use Rattle.rules.specs.Settings.{settingsAccepted, limitAt}
 use Rattle.rules.specs.Samples.{Slice, Equipment, permitted, frequency, lowest, highest}
@@ -18,9 +18,8 @@ use Rattle.rules.specs.Reports.{Items}
 use Rattle.rules.specs.History.{History, followedBy, streak, complete, serving, climbed, historyStatus, historyShare, historyWatts, historyVars, historyReport}
 use Rattle.rules.specs.declared.Settings.{Settings}
 use Rattle.claims.specs.TwoHistories.{AgreeBy}
-use Rattle.laws.proofs.Bools.{at-all, within-true}
-use Rattle.laws.proofs.Accepted.{sheet-rows}
 use Rattle.laws.proofs.Limits.{LevelIn, LimitsIn, limits-in}
+use Rattle.laws.proofs.InRange.{breaks-none}
 use Rattle.demands.specs.Shams.{reportWithoutBits}
 
 -- a sample put before all others
@@ -60,10 +59,10 @@ module _ (e : Equipment) (st : Settings) (ok : settingsAccepted st ≡ true) whe
   -- a sample in range breaks no limit
   in-range-breaks-none : (x : Slice) → inRange e st x ≡ true → (k : Kind) (n : ℕ) → LevelIn k n → broken e k n x ≡ false
   unfolding inRange broken
-  in-range-breaks-none x p undervoltage n i = let r = sheet-rows st ok in le-ltb (lowest e x) n (omega (arith, r .volts, within-true (at-all _ p 1)))
-  in-range-breaks-none x p overvoltage n i = let r = sheet-rows st ok in le-ltb n (highest e x) (omega (arith, r .volts, within-true (at-all _ p 2)))
-  in-range-breaks-none x p underfrequency n i = let r = sheet-rows st ok in le-ltb (frequency x) n (omega (arith, r .hertz, within-true (at-all _ p 3)))
-  in-range-breaks-none x p overfrequency n i = let r = sheet-rows st ok in le-ltb n (frequency x) (omega (arith, r .hertz, within-true (at-all _ p 3)))
+  in-range-breaks-none x p undervoltage n i = breaks-none st ok (permitted x) (lowest e x) (highest e x) (frequency x) p undervoltage n i
+  in-range-breaks-none x p overvoltage n i = breaks-none st ok (permitted x) (lowest e x) (highest e x) (frequency x) p overvoltage n i
+  in-range-breaks-none x p underfrequency n i = breaks-none st ok (permitted x) (lowest e x) (highest e x) (frequency x) p underfrequency n i
+  in-range-breaks-none x p overfrequency n i = breaks-none st ok (permitted x) (lowest e x) (highest e x) (frequency x) p overfrequency n i
 
   ready-in-range : (x : Slice) (h : History) → complete (x ∷ h) (readyRule e st) ≡ true → inRange e st x ≡ true
   unfolding streak

@@ -6,7 +6,7 @@ use mathlib.Core.List.{List, [], _∷_, map}
 use Prim.Native.Nat.{ℕ, zero, suc, _≤_, _<_}
 use native.Mathlib.Nat.{not-suc-le-zero, le-of-suc-le-suc}
 use native.Mathlib.Omega.{arith}
-use lib.IntN.{pos}
+use lib.IntN.{pos, natAbs}
 use lib.ListN.{length, getD}
 use borrow.Author.Tests.{leb-true, eqb-true}
 use Rattle.rules.specs.Tests.{all}
@@ -48,14 +48,18 @@ line-at n (r ∷ rs) (ps ∷ ls) e (suc i) h k =
     let q = line-right (all (map (inRow r) ps)) (rising ps) (checkFrom (suc n) rs ls) n e in
     line-at (suc n) rs ls (q .2) i (le-of-suc-le-suc h) (le-of-suc-le-suc k)
 
--- a pair of numbers that are not negative, in its row
-pub record InRow (a b c d x y : ℕ) : Type 0 where
-  pub first-low : a ≤ x
-  pub first-high : x ≤ b
-  pub second-low : c ≤ y
-  pub second-high : y ≤ d
+-- row i of the table of allowed values
+abbrev pub rowAt : ℕ → Row
+rowAt i = getD rows i (row 0 0 0 0)
 
-in-row : (a b c d x y : ℕ) → inRow (row a b c d) (pair (pos x) (pos y)) ≡ true → InRow a b c d x y
+-- a pair of numbers that are not negative, in a row of such
+pub record InRow (r : Row) (x y : ℕ) : Type 0 where
+  pub first-low : natAbs (r .firstLow) ≤ x
+  pub first-high : x ≤ natAbs (r .firstHigh)
+  pub second-low : natAbs (r .secondLow) ≤ y
+  pub second-high : y ≤ natAbs (r .secondHigh)
+
+in-row : (a b c d x y : ℕ) → inRow (row a b c d) (pair (pos x) (pos y)) ≡ true → InRow (row a b c d) x y
 unfolding inRow
 in-row a b c d x y e =
     record {
@@ -66,30 +70,31 @@ in-row a b c d x y e =
     }
 
 -- a line of one such pair
-one-pair : (a b c d x y : ℕ) → LineRight (row a b c d) (pair (pos x) (pos y) ∷ []) → InRow a b c d x y
+one-pair : (a b c d x y : ℕ) → LineRight (row a b c d) (pair (pos x) (pos y) ∷ []) → InRow (row a b c d) x y
 unfolding all
 one-pair a b c d x y l = in-row a b c d x y (both (inRow (row a b c d) (pair (pos x) (pos y))) true (l .in-row) .0)
 
-abbrev LimitIn : Settings → ℕ → ℕ → ℕ → ℕ → ℕ → Type 0
-LimitIn st i a b c d = InRow a b c d (limitAt st i .level) (limitAt st i .clearing)
+-- limit i is in its row
+abbrev pub LimitRow : Settings → ℕ → Type 0
+LimitRow st i = InRow (rowAt i) (limitAt st i .level) (limitAt st i .clearing)
 
--- the rows of an accepted sheet
+-- the lines of one pair of an accepted sheet
 pub record Rows (st : Settings) : Type 0 where
-  pub uv1 : LimitIn st 0 0 8800 2100 5000
-  pub uv2 : LimitIn st 1 0 5000 200 2100
-  pub ov1 : LimitIn st 2 11000 12000 100 1300
-  pub ov2 : LimitIn st 3 12000 12000 16 16
-  pub uf1 : LimitIn st 4 50000 59000 18000 100000
-  pub uf2 : LimitIn st 5 50000 57000 16 100000
-  pub of1 : LimitIn st 6 61000 66000 18000 100000
-  pub of2 : LimitIn st 7 61800 66000 16 100000
-  pub volts : InRow 8800 9500 10500 10600 (st .volts .low) (st .volts .high)
-  pub hertz : InRow 59000 59900 60100 61000 (st .hertz .low) (st .hertz .high)
-  pub wait : InRow 0 60000 100 100000 (st .wait) (st .ramp)
+  pub uv1 : LimitRow st 0
+  pub uv2 : LimitRow st 1
+  pub ov1 : LimitRow st 2
+  pub ov2 : LimitRow st 3
+  pub uf1 : LimitRow st 4
+  pub uf2 : LimitRow st 5
+  pub of1 : LimitRow st 6
+  pub of2 : LimitRow st 7
+  pub volts : InRow (rowAt 8) (st .volts .low) (st .volts .high)
+  pub hertz : InRow (rowAt 9) (st .hertz .low) (st .hertz .high)
+  pub wait : InRow (rowAt 10) (st .wait) (st .ramp)
 
 -- line i of the thirteen
 pub sheet-line : (st : Settings) → settingsAccepted st ≡ true → (i : ℕ) → i < 13
-    → LineRight (getD rows i (row 0 0 0 0)) (getD (linesOf st) i [])
+    → LineRight (rowAt i) (getD (linesOf st) i [])
 unfolding settingsCheck rows linesOf
 sheet-line st e i h = line-at 1 rows (linesOf st) e i h h
 

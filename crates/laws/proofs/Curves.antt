@@ -7,16 +7,22 @@ use Prim.Native.Nat.{_≤_}
 use native.Mathlib.Omega.{arith}
 use lib.Dec.{T}
 use lib.IntN.{ℤ, pos, negsuc, negℤ, natAbs}
-use lib.ListN.{getD}
 use lib.Signed.{leZ, ltZ, nonNeg}
+use mir.Syntax.{w16}
+use mir.Val.{SFits}
 use borrow.Author.Tests.{leb-true, ltb-true}
 use Rattle.rules.specs.Tests.{all}
-use Rattle.rules.specs.Settings.{Row, row, rows, inRow, rising, linesOf, settingsAccepted, pointPair}
+use Rattle.rules.specs.Settings.{Row, rows, inRow, rising, linesOf, settingsAccepted, pointPair}
 use Rattle.rules.specs.declared.Point.{Point}
 use Rattle.rules.specs.declared.Settings.{Settings}
 use Rattle.laws.proofs.Bools.{both, at-all}
-use Rattle.laws.proofs.Accepted.{sheet-line}
+use Rattle.laws.proofs.Accepted.{rowAt, sheet-line}
 use Rattle.power.specs.Points.{Allowed, RisesFrom, Rises, NonNegative}
+
+-- a power fits 16 bits
+pub fits16 : (z : ℤ) → natAbs z ≤ 10000 → SFits w16 z
+fits16 (pos n) h = record { sfits = omega arith }
+fits16 (negsuc n) h = record { sfits = omega arith }
 
 -- a row that allows only such points as a curve may have
 abbrev Allows : Row → Type 0
@@ -31,10 +37,10 @@ not-negative (pos n) low = tt
 not-negative (negsuc n) low = false≢true low
 
 abbrev varRow : Row
-varRow = getD rows 11 (row 0 0 0 0)
+varRow = rowAt 11
 
 abbrev wattRow : Row
-wattRow = getD rows 12 (row 0 0 0 0)
+wattRow = rowAt 12
 
 var-allows : Allows varRow
 unfolding inRow rows

@@ -11,7 +11,7 @@ use lib.Seq.{take-at}
 use mir.Syntax.{w16}
 use mir.Val.{SFits}
 use borrow.Author.Tests.{le-leb}
-use Rattle.rules.specs.Settings.{settingsAccepted}
+use Rattle.rules.specs.Settings.{rows, settingsAccepted}
 use Rattle.rules.specs.Samples.{Slice, Equipment, mean, sampleAccepted}
 use Rattle.rules.specs.Counters.{Rule, rules}
 use Rattle.rules.specs.Curves.{curve}
@@ -30,7 +30,7 @@ use Rattle.power.proofs.CurveLaws.{curve-small}
 use Rattle.power.proofs.PointLists.{powers-small}
 use Rattle.laws.proofs.Bools.{both}
 use Rattle.laws.proofs.Accepted.{sample-right, sheet-rows}
-use Rattle.laws.proofs.Curves.{var-rises}
+use Rattle.laws.proofs.Curves.{fits16, var-rises}
 use Rattle.laws.proofs.Least.{least-below}
 use Rattle.laws.proofs.Trace.{counters-are, service-is, ramp-is, status-is, watts-is, vars-is, next-is, shown-is}
 use Rattle.laws.proofs.Demand2.{run-is}
@@ -53,10 +53,6 @@ heard-accepted (c ∷ cs) h a = heard-accepted cs (heardOne h c) (by (callAccept
 counts-below : (h : History) (rs : List Rule) → AllTellable rs → AllBelow 4294967296 (map (countOf h) rs)
 counts-below h [] t = tt
 counts-below h (r ∷ rs) t = (omega (arith, t .0 .reach), counts-below h rs (t .1))
-
-power-fits : (z : ℤ) → natAbs z ≤ 10000 → SFits w16 z
-power-fits (pos n) h = record { sfits = omega arith }
-power-fits (negsuc n) h = record { sfits = omega arith }
 
 -- a record is its fields
 same-record : {b c : Board} → b .status ≡ c .status → b .counters ≡ c .counters → b .ramp ≡ c .ramp → b .watts ≡ c .watts → b .vars ≡ c .vars → b ≡ c
@@ -81,14 +77,15 @@ module _ (e : Equipment) (sound : Sound e) (st : Settings) (ok : settingsAccepte
 
   vars-fit : (h : History) → SFits w16 (historyVars e st h)
   unfolding historyVars varsOf
-  vars-fit [] = power-fits (pos 0) (omega arith)
+  vars-fit [] = fits16 (pos 0) (omega arith)
   vars-fit (x ∷ h) = by (exports (historyStatus e st (x ∷ h)))
     where
       by : (b : Bool) → SFits w16 (cond b (curve (st .var) (mean e x)) (pos 0))
-      by true = power-fits (curve (st .var) (mean e x)) (curve-small 10000 (st .var) (mean e x) (powers-small (st .var) (var-rises st ok)))
-      by false = power-fits (pos 0) (omega arith)
+      by true = fits16 (curve (st .var) (mean e x)) (curve-small 10000 (st .var) (mean e x) (powers-small (st .var) (var-rises st ok)))
+      by false = fits16 (pos 0) (omega arith)
 
   record-fits : (h : History) → AllAccepted h → FieldsFit (recordOf e st h)
+  unfolding rows
   record-fits h a =
       record {
         nine = ap length (counters-are e st h);

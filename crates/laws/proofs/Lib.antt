@@ -1,6 +1,7 @@
 pub mod Bools
 pub mod Accepted
 pub mod Limits
+pub mod InRange
 pub mod Counting
 pub mod Trace
 pub mod Trip

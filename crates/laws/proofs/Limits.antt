@@ -5,7 +5,7 @@ use mathlib.Core.Bool.{true}
 use mathlib.Core.List.{List, [], _∷_}
 use Prim.Native.Nat.{ℕ, suc, _≤_}
 use native.Mathlib.Omega.{arith}
-use Rattle.rules.specs.Settings.{settingsAccepted, limitAt}
+use Rattle.rules.specs.Settings.{rows, settingsAccepted, limitAt}
 use Rattle.rules.specs.Counters.{Kind, undervoltage, overvoltage, underfrequency, overfrequency, kinds}
 use Rattle.rules.specs.declared.Limit.{Limit}
 use Rattle.rules.specs.declared.Settings.{Settings}
@@ -29,4 +29,5 @@ LimitsIn st i [] = Unit {0}
 LimitsIn st i (k ∷ ks) = LimitIn k (limitAt st i) × LimitsIn st (suc i) ks
 
 pub limits-in : (st : Settings) → settingsAccepted st ≡ true → LimitsIn st 0 kinds
+unfolding rows
 limits-in st ok = let k = sheet-rows st ok in omega arith

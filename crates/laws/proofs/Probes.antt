@@ -11,7 +11,7 @@ use lib.ListN.{length, replicate, length-replicate}
 use borrow.Author.Tests.{ltb-true, ltb-false, lt-ltb, le-ltb, le-leb}
 use Rattle.rules.specs.Tests.{all}
 use Rattle.rules.specs.Sensing.{lastCode}
-use Rattle.rules.specs.Settings.{settingsAccepted, limitAt}
+use Rattle.rules.specs.Settings.{rows, settingsAccepted, limitAt}
 use Rattle.rules.specs.Samples.{Slice, Equipment, lowest, highest, sampleCheck, sampleAccepted}
 use Rattle.rules.specs.Counters.{Rule, Kind, undervoltage, overvoltage, underfrequency, overfrequency, kinds, broken, inRange, limitRules, readyRule, rules}
 use Rattle.rules.specs.History.{History, followedBy, streak, complete}
@@ -129,7 +129,7 @@ module _ (e : Equipment) (sound : Sound e) where
 
   module _ (st : Settings) (ok : settingsAccepted st ≡ true) where
     pub calm-in-range : inRange e st calm ≡ true
-    unfolding inRange all
+    unfolding inRange all rows
     calm-in-range =
         let k = sheet-rows st ok in
         rw (
@@ -139,6 +139,7 @@ module _ (e : Equipment) (sound : Sound e) where
         )
 
     ready-told : Tellable (readyRule e st)
+    unfolding rows
     ready-told =
         let k = sheet-rows st ok in
         record { reach = omega arith; probe = inl (calm, calm-accepted, calm-in-range) }

@@ -9,7 +9,7 @@ use native.Mathlib.Omega.{arith}
 use lib.ListN.{replicate, length-replicate}
 use borrow.Author.Tests.{lt-leb}
 use Rattle.rules.specs.Tests.{any}
-use Rattle.rules.specs.Settings.{settingsAccepted, limitAt}
+use Rattle.rules.specs.Settings.{rows, settingsAccepted, limitAt}
 use Rattle.rules.specs.Samples.{Equipment}
 use Rattle.rules.specs.Counters.{Kind, kinds, limitRules}
 use Rattle.rules.specs.Regions.{regionOf, isContinuous}
@@ -62,7 +62,7 @@ module _ (e : Equipment) (sound : Sound e) (st : Settings) (ok : settingsAccepte
       climb-run n (calm e sound ∷ h) (calm-serves h p) ∙ ap (λ (m : ℕ). n + m) (calm-climbs h p) ∙ add-suc n (climbed e st h) ∙ sym (suc-add n (climbed e st h))
 
   pub ramps-told : (h g : History) → serving e st h ≡ serving e st g → Agree e st h g → min (st .ramp) (climbed e st h) ≡ min (st .ramp) (climbed e st g)
-  unfolding historyReport historyShare
+  unfolding rows historyReport historyShare
   ramps-told h g o f = by (serving e st h) refl
     where
       at : serving e st h ≡ true → (k : ℕ) → k ≤ 100000

@@ -20,7 +20,7 @@ use Rattle.rules.specs.declared.Region.the-variants.{Continuous}
 use Rattle.claims.specs.Held.{Held, RanOut, WaitFull}
 use Rattle.claims.specs.Sound.{Sound}
 use Rattle.laws.proofs.Bools.{at-all, within-true, true-within}
-use Rattle.laws.proofs.Accepted.{sheet-rows}
+use Rattle.laws.proofs.InRange.{continuous-in}
 
 -- ---- a streak is what held at each of the last samples
 
@@ -152,17 +152,8 @@ module _ (e : Equipment) (st : Settings) where
   -- ---- a return is in the continuous operation region
 
   pub in-range-even : Sound e → settingsAccepted st ≡ true → (x : Slice) → inRange e st x ≡ true → regionOf e x ≡ Continuous
-  unfolding inRange regionOf frequencyRegion
-  in-range-even sound ok x p =
-      let k = sheet-rows st ok in
-      let a = within-true (at-all _ p 1) in
-      let b = within-true (at-all _ p 2) in
-      let c = within-true (at-all _ p 3) in
-      rw (
-        sound .continuous (lowest e x) (omega (arith, k .volts .first-low, k .volts .second-high)) (omega (arith, k .volts .first-low, k .volts .second-high)),
-        sound .continuous (highest e x) (omega (arith, k .volts .first-low, k .volts .second-high)) (omega (arith, k .volts .first-low, k .volts .second-high)),
-        true-within 58800 61200 (frequency x) (omega (arith, k .hertz .first-low)) (omega (arith, k .hertz .second-high)),
-      )
+  unfolding inRange regionOf
+  in-range-even sound ok x p = continuous-in st ok (permitted x) (lowest e x) (highest e x) (frequency x) p (e .region) (sound .continuous)
 
   pub return-even : Sound e → settingsAccepted st ≡ true → (h : History) (x : Slice) → serving e st h ≡ false → serving e st (x ∷ h) ≡ true → regionOf e x ≡ Continuous
   return-even sound ok h x p q = in-range-even sound ok x (return-law h x p .0 q .throughout 0 (omega arith))

@@ -29,6 +29,7 @@ use Rattle.rules.specs.declared.SettingsCheck.{SettingsCheck}
 use Rattle.rules.specs.declared.SampleCheck.{SampleCheck}
 use Rattle.rules.specs.declared.Answer.{Answer}
 use Rattle.rules.specs.declared.Stepped.{Stepped}
+use Rattle.laws.proofs.Curves.{fits16}
 use Rattle.laws.proofs.Least.{inTurn, in-turn}
 use Rattle.laws.proofs.SameRules.{SameRules, counted-same, full-same}
 use Rattle.readings.specs.declared.reading.Reading.{Reading}
@@ -37,10 +38,6 @@ use Rattle.readings.proofs.Counting.{rules-length}
 use Rattle.service.specs.Steps.{Bits}
 
 -- ---- a power fits the record's fields
-
-pub fits16 : (z : ℤ) → natAbs z ≤ 10000 → SFits w16 z
-fits16 (pos n) h = record { sfits = omega arith }
-fits16 (negsuc n) h = record { sfits = omega arith }
 
 fits32 : (z : ℤ) → natAbs z ≤ 10000 → SFits w32 z
 fits32 (pos n) h = record { sfits = omega arith }

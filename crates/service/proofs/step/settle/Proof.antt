@@ -2,9 +2,11 @@
 -- Assumes nothing.
 use native.Mathlib.Omega.{arith}
 use Rattle.laws.proofs.Accepted.{sheet-rows}
+use Rattle.laws.proofs.Curves.{fits16}
+use Rattle.rules.specs.Settings.{rows}
 use Rattle.rules.specs.Reports.{reportOf}
 use Rattle.rules.specs.Records.{settled, shown}
-use Rattle.service.proofs.Stepping.{fits16, kept32, kept16}
+use Rattle.service.proofs.Stepping.{kept32, kept16}
 use borrow.Author.Needs.{needs}
 use Rattle.service.proofs.step.settle.Statement.{statement}
 use Rattle.service.proofs.step.settle.Tie as tie
@@ -13,6 +15,7 @@ status-of-requires : tie.Need-status-of-requires
 status-of-requires c κs = search needs
 
 share-requires : tie.Need-share-requires
+unfolding rows
 share-requires c κs =
     let k = sheet-rows (c .before .args .s) (c .before .pre .0 .sheet) in (omega arith, omega arith, omega arith)
 
