@@ -1,25 +1,20 @@
 -- Equipments with the same voltages for the codes that are accepted, and the same regions, step alike.
 -- Assumes nothing.
-use mathlib.Core.Path.{_≡_, refl, ap, ap₂, _∙_}
-use mathlib.Core.Bool.{Bool, true, false, _&&_}
+use mathlib.Core.Path.{_≡_, refl, ap, _∙_}
+use mathlib.Core.Bool.{Bool}
 use mathlib.Core.List.{List, [], _∷_}
 use Prim.Native.Nat.{ℕ, suc}
-use lib.IntN.{ℤ}
-use Rattle.rules.specs.Settings.{settingsCheck, isAccepted, settingsAccepted, limitAt}
+use Rattle.rules.specs.Settings.{settingsCheck, limitAt}
 use Rattle.rules.specs.Samples.{Slice, Equipment, codeOf, phase, lowest, highest, mean, sampleCheck}
 use Rattle.rules.specs.Samples as samples
 use Rattle.rules.specs.Counters.{Kind, undervoltage, overvoltage, underfrequency, overfrequency, kinds, counted, broken, inRange, limitRules, tripRules, readyRule, rules}
 use Rattle.rules.specs.Regions.{regionOf}
 use Rattle.rules.specs.Service.{varsOf, wattsOf}
-use Rattle.rules.specs.Reports.{Items, reportOf}
 use Rattle.rules.specs.Records.{each, readAs, settled, ruled, next, shown, onSample, onSettings, stepOf}
 use Rattle.rules.specs.declared.Settings.{Settings}
 use Rattle.rules.specs.declared.Board.{Board}
-use Rattle.rules.specs.declared.Region.{Region}
 use Rattle.rules.specs.declared.SettingsCheck.{SettingsCheck}
 use Rattle.rules.specs.declared.SampleCheck.{SampleCheck}
-use Rattle.rules.specs.declared.Answer.{Answer}
-use Rattle.rules.specs.declared.Stepped.{Stepped}
 use Rattle.claims.specs.Alike.{Alike}
 use Rattle.laws.proofs.Accepted.{SampleRight, sample-right}
 use Rattle.laws.proofs.SameRules.{SameRules, same-append, counted-same, full-same, capped-same}

@@ -13,13 +13,12 @@ use Rattle.rules.specs.Tests.{any}
 use Rattle.rules.specs.Settings.{settingsAccepted}
 use Rattle.rules.specs.Samples.{Slice, Equipment, permitted, frequency, lowest, highest}
 use Rattle.rules.specs.Counters.{Rule, Kind, kinds, undervoltage, inRange, limitRule, limitRules, tripRules, readyRule}
-use Rattle.rules.specs.Regions.{regionOf, frequencyRegion}
+use Rattle.rules.specs.Regions.{regionOf}
 use Rattle.rules.specs.History.{History, streak, complete, serving}
 use Rattle.rules.specs.declared.Settings.{Settings}
 use Rattle.rules.specs.declared.Region.the-variants.{Continuous}
 use Rattle.claims.specs.Held.{Held, RanOut, WaitFull}
 use Rattle.claims.specs.Sound.{Sound}
-use Rattle.laws.proofs.Bools.{at-all, within-true, true-within}
 use Rattle.laws.proofs.InRange.{continuous-in}
 
 -- ---- a streak is what held at each of the last samples

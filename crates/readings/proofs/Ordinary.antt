@@ -10,7 +10,7 @@ use Rattle.rules.specs.Counters.{Kind, undervoltage, overvoltage, underfrequenc
 use Rattle.rules.specs.Regions.{voltageRegion}
 use Rattle.rules.specs.declared.Region.the-variants.{Continuous}
 use Rattle.rules.specs.declared.Settings.{Settings}
-use Rattle.laws.proofs.Limits.{LimitIn, LimitsIn, limits-in}
+use Rattle.laws.proofs.Limits.{LimitIn, limits-in}
 use Rattle.laws.proofs.InRange.{breaks, breaks-none, continuous-in, continuous-voltage}
 use Rattle.readings.specs.declared.reading.Reading.{Reading}
 use Rattle.readings.specs.Readings.{enters, hitAt, regionAt, Ordinary}

@@ -8,7 +8,7 @@ use Prim.Native.Nat.{ℕ}
 use lib.IntN.{ℤ, natAbs}
 use Rattle.rules.specs.Samples.{Equipment}
 use Rattle.rules.specs.Forms.{sampleForm}
-use Rattle.rules.specs.Transcripts.{Line, ended, unended, linesIn, onSampleNumbers}
+use Rattle.rules.specs.Transcripts.{Line, ended, unended, onSampleNumbers}
 use Rattle.rules.specs.declared.Settings.{Settings}
 use Rattle.rules.specs.declared.Board.{Board}
 use Rattle.claims.specs.Alike.{Alike}

@@ -3,10 +3,9 @@
 use mathlib.Core.Path.{_≡_, refl, sym, ap, ap₂, subst, _∙_}
 use mathlib.Core.Bool.{Bool, true, false, cond, false≢true}
 use mathlib.Core.List.{List, [], _∷_, _++_}
-use Prim.Native.Nat.{ℕ, zero, suc, _*_, _/_, _≤_, min}
+use Prim.Native.Nat.{ℕ, zero, suc, _/_, _≤_, min}
 use native.Mathlib.Nat.{suc-inj}
 use native.Mathlib.Omega.{arith}
-use lib.Dec.{eqb}
 use lib.IntN.{ℤ, pos, negsuc, natAbs}
 use lib.ListN.{length, getD}
 use mir.Syntax.{w16, w32}
@@ -18,17 +17,15 @@ use Rattle.rules.specs.Samples.{Slice, Equipment, permitted, available, operato
 use Rattle.rules.specs.Counters.{Rule, counted, full, broken, inRange, tripRules, readyRule, rules}
 use Rattle.rules.specs.Regions.{voltageRegion, regionOf, isContinuous}
 use Rattle.rules.specs.Curves.{curve, nameplate}
-use Rattle.rules.specs.Service.{serves, ramped, statusOf, inService, exports, shareOf, varsOf, wattCurve, wattsOf}
-use Rattle.rules.specs.Reports.{packedAfter, reportOf}
-use Rattle.rules.specs.Records.{each, capped, readAs, settled, ruled, next, shown, turnedAway, onSample, onSettings, stepOf}
+use Rattle.rules.specs.Service.{serves, ramped, inService, exports, varsOf, wattCurve, wattsOf}
+use Rattle.rules.specs.Reports.{packedAfter}
+use Rattle.rules.specs.Records.{each, capped, readAs, settled, ruled, next, turnedAway, onSample, onSettings, stepOf}
 use Rattle.rules.specs.declared.Settings.{Settings}
 use Rattle.rules.specs.declared.Board.{Board}
 use Rattle.rules.specs.declared.Region.{Region}
 use Rattle.rules.specs.declared.Refusal.{Refusal}
 use Rattle.rules.specs.declared.SettingsCheck.{SettingsCheck}
 use Rattle.rules.specs.declared.SampleCheck.{SampleCheck}
-use Rattle.rules.specs.declared.Answer.{Answer}
-use Rattle.rules.specs.declared.Stepped.{Stepped}
 use Rattle.laws.proofs.Curves.{fits16}
 use Rattle.laws.proofs.Least.{inTurn, in-turn}
 use Rattle.laws.proofs.SameRules.{SameRules, counted-same, full-same}
