@@ -69,6 +69,10 @@ and-then {d} {x} {y} {at = at} w₁ w₂ =
       bytes = write-then d at x y (w₁ .after) room (w₁ .bytes) (w₂ .bytes);
     }
 
+-- writing nothing
+pub wrote-none : {d : List ℕ} {at : ℕ} → at ≤ length d → Wrote d at d at []
+wrote-none {d} {at} h = record { after = sym (add-zero at); inside = h; bytes = sym (written-none d at) }
+
 -- the last byte may be stored before the others are written
 pub last-first : (d : List ℕ) (at : ℕ) (x : List ℕ) (b : ℕ) {place : ℕ} → place ≡ at + length x → place < length d
     → written (set d place b) at x ≡ written d at (x ++ (b ∷ []))

@@ -1,15 +1,14 @@
 // Executed cases: document 01, "Values at the edges" and "Turned-away input". Each line names a case and what the library gave.
-ghost use Prim.Native.Nat.{_≤_};
 use libc::STDOUT_FILENO;
 use rules::Answer;
 use rules::Board;
 use rules::Limit;
 use rules::Point;
-use rules::Refusal;
 use rules::Saved;
 use rules::Sensed;
 use rules::Settings;
 use rules::Span;
+use rules::refusal_number;
 
 fn wide16(x: u16) -> u64 {
     x as u64
@@ -17,23 +16,6 @@ fn wide16(x: u16) -> u64 {
 
 fn wide8(x: u8) -> u64 {
     x as u64
-}
-
-// The paper's number of a cause.
-fn number(cause: Refusal) -> u64
-    ensures { λ r. ⌜ r ≤ 9 ⌝ }
-{
-    match cause {
-        Refusal::Form => 1,
-        Refusal::Range => 2,
-        Refusal::Rise => 3,
-        Refusal::Code => 4,
-        Refusal::Frequency => 5,
-        Refusal::Permission => 6,
-        Refusal::Power => 7,
-        Refusal::Sample => 8,
-        Refusal::Buffer => 9,
-    }
 }
 
 fn show(label: &[u8], n: u64) {
@@ -124,7 +106,7 @@ fn sheet() -> Settings {
 fn volts_of(code: u32) -> u64 {
     match sensing::sense(code) {
         Sensed::Volts(v) => wide16(v),
-        Sensed::Refused(cause) => 1000000 + number(cause),
+        Sensed::Refused(cause) => 1000000 + refusal_number(cause) as u64,
     }
 }
 
@@ -132,7 +114,7 @@ fn volts_of(code: u32) -> u64 {
 fn shown(answer: Answer) -> u64 {
     match answer {
         Answer::Reported(r) => wide8(r.status),
-        Answer::Refused(cause) => 100 + number(cause),
+        Answer::Refused(cause) => 100 + refusal_number(cause) as u64,
     }
 }
 
@@ -163,7 +145,7 @@ fn status_above_ov2(n: u32) -> u64 {
 fn saved_number(answer: Saved) -> u64 {
     match answer {
         Saved::Written => 0,
-        Saved::Refused(cause) => number(cause),
+        Saved::Refused(cause) => refusal_number(cause) as u64,
     }
 }
 

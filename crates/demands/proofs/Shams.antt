@@ -16,7 +16,7 @@ use Rattle.rules.specs.Regions.{voltageRegion, frequencyRegion, regionOf, ourEq
 use Rattle.rules.specs.Curves.{curveFrom, curve, nameplate}
 use Rattle.rules.specs.Service.{varsOf, wattsOf}
 use Rattle.rules.specs.Reports.{Items, reportOf}
-use Rattle.rules.specs.Images.{twoBytes, fourBytes, allInFour, image, savedInto}
+use Rattle.rules.specs.Images.{numberBytes, fieldBytes, imageFields, image, savedInto}
 use Rattle.rules.specs.Records.{fresh, each, readAs, settled, ruled, next, shown, stepOf}
 use Rattle.rules.specs.History.{streak, serving, climbed, historyStatus, historyShare, historyWatts, historyVars, historyReport}
 use Rattle.rules.specs.declared.Settings.{Settings}
@@ -100,7 +100,7 @@ idle wait = record { settings = exampleSheet wait; slice = 1000 ∷ 1000 ∷ 100
 
 -- two ramp counts, one image: the shares differ at once
 pub no-ramp : ¬ TwoHistoriesBy savedWithoutRamp (historyReport ourEquipment) (ruledBy ourEquipment) quick
-unfolding savedWithoutRamp savedInto image allInFour fourBytes twoBytes all any within largest voltage rows inRow rising checkFrom linesOf settingsCheck sampleCheck broken inRange voltageRegion frequencyRegion regionOf curveFrom curve nameplate varsOf wattsOf reportOf fresh each readAs settled ruled next shown stepOf streak serving climbed historyStatus historyShare historyWatts historyVars historyReport
+unfolding savedWithoutRamp savedInto image imageFields fieldBytes numberBytes all any within largest voltage rows inRow rising checkFrom linesOf settingsCheck sampleCheck broken inRange voltageRegion frequencyRegion regionOf curveFrom curve nameplate varsOf wattsOf reportOf fresh each readAs settled ruled next shown stepOf streak serving climbed historyStatus historyShare historyWatts historyVars historyReport
 no-ramp d =
     let f = d (idle 0 ∷ idle 0 ∷ []) (idle 0 ∷ idle 0 ∷ idle 0 ∷ []) (inl refl, (inl refl, tt)) (inl refl, (inl refl, (inl refl, tt))) buffer buffer (omega arith) (omega arith) .0 refl in
     let e : _≡_ {A = ℕ} 100 200 = ap (λ (r : Items). r .share) (f [] (omega arith) tt) in
@@ -108,7 +108,7 @@ no-ramp d =
 
 -- two counts of a wait of 2, one image: after one sample more one board is in service
 pub no-ninth : ¬ TwoHistoriesBy savedWithoutNinth (historyReport ourEquipment) (ruledBy ourEquipment) (exampleSheet 2)
-unfolding savedWithoutNinth savedInto image allInFour fourBytes twoBytes all any within largest voltage rows inRow rising checkFrom linesOf settingsCheck sampleCheck broken inRange voltageRegion frequencyRegion regionOf curveFrom curve nameplate varsOf wattsOf reportOf fresh each readAs settled ruled next shown stepOf streak serving climbed historyStatus historyShare historyWatts historyVars historyReport
+unfolding savedWithoutNinth savedInto image imageFields fieldBytes numberBytes all any within largest voltage rows inRow rising checkFrom linesOf settingsCheck sampleCheck broken inRange voltageRegion frequencyRegion regionOf curveFrom curve nameplate varsOf wattsOf reportOf fresh each readAs settled ruled next shown stepOf streak serving climbed historyStatus historyShare historyWatts historyVars historyReport
 no-ninth d =
     let f = d [] (idle 2 ∷ []) tt (inl refl, tt) buffer buffer (omega arith) (omega arith) .0 refl in
     let e : _≡_ {A = ℕ} 0 1 = ap (λ (r : Items). r .status) (f ((idle 2 .slice) ∷ []) (omega arith) (refl, tt)) in
@@ -126,7 +126,7 @@ dark-out = refl
 
 -- uv1's counter stands at 1 in one image and at 0 in the other, and without bits no run tells it
 pub no-bits : ¬ TwoHistoriesBy savedInto reportWithoutBits (ruledBy ourEquipment) quick
-unfolding savedInto image allInFour fourBytes twoBytes all any within largest voltage rows inRow rising checkFrom linesOf settingsCheck sampleCheck broken inRange voltageRegion frequencyRegion regionOf curveFrom curve nameplate varsOf wattsOf reportOf fresh each readAs settled ruled next shown stepOf streak serving climbed historyStatus historyShare historyWatts historyVars historyReport
+unfolding savedInto image imageFields fieldBytes numberBytes all any within largest voltage rows inRow rising checkFrom linesOf settingsCheck sampleCheck broken inRange voltageRegion frequencyRegion regionOf curveFrom curve nameplate varsOf wattsOf reportOf fresh each readAs settled ruled next shown stepOf streak serving climbed historyStatus historyShare historyWatts historyVars historyReport
 no-bits d =
     let same = d [] (dark ∷ []) tt (inl refl, tt) buffer buffer (omega arith) (omega arith) .1 (agree-without-bits quick quick-accepted (dark .slice) dark-out) in
     let e : _≡_ {A = ℕ} 0 1 = ap (λ (bytes : List ℕ). getD bytes 4 0) same in

@@ -3,9 +3,10 @@
 use mathlib.Core.Path.{_≡_, refl, sym, ap, _∙_, subst}
 use mathlib.Core.Bool.{Bool, true, false, cond}
 use mathlib.Core.List.{List, [], _∷_, map}
-use Prim.Native.Nat.{ℕ, _≤_, _<_, zero-le}
+use Prim.Native.Nat.{ℕ, _^_, _≤_, _<_, zero-le}
 use native.Mathlib.Omega.{arith}
 use lib.IntN.{ℤ, pos}
+use lib.Dec.{lit<}
 use lib.ListN.{length, take, drop, getD}
 use lib.Seq.{take-at}
 use mir.Syntax.{w16}
@@ -15,13 +16,16 @@ use Rattle.rules.specs.Settings.{rows, settingsAccepted}
 use Rattle.rules.specs.Samples.{Slice, Equipment, mean, sampleAccepted}
 use Rattle.rules.specs.Counters.{Rule, rules}
 use Rattle.rules.specs.Curves.{curve}
-use Rattle.rules.specs.Service.{inService, exports, varsOf, Limited, powerLimits, least, wattsOf}
+use Rattle.rules.specs.Regions.{regionOf}
+use Rattle.rules.specs.Service.{statusOf, inService, exports, varsOf, Limited, powerLimits, least, wattsOf}
 use Rattle.rules.specs.Reports.{Items}
 use Rattle.rules.specs.Records.{next, shown}
 use Rattle.rules.specs.History.{History, followedBy, serving, historyStatus, historyShare, historyWatts, historyVars, historyReport}
-use Rattle.rules.specs.Images.{image, imageLength, savedInto}
+use Rattle.rules.specs.Images.{field, imageFields, image, imageLength, savedInto}
 use Rattle.rules.specs.declared.Settings.{Settings}
 use Rattle.rules.specs.declared.Board.{Board}
+use Rattle.rules.specs.declared.Region.{Region}
+use Rattle.rules.specs.declared.Region.the-variants.{Continuous, Mandatory, Momentary, Cease}
 use Rattle.claims.specs.Calls.{Call, Run, ruledBy, runOf, callAccepted, heardOne, heardAfter, heard, Under}
 use Rattle.claims.specs.Sound.{Sound}
 use Rattle.claims.specs.TripAndReturn.{countOf, recordOf}
@@ -36,7 +40,7 @@ use Rattle.laws.proofs.Trace.{counters-are, service-is, ramp-is, status
 use Rattle.laws.proofs.Demand2.{run-is}
 use Rattle.laws.proofs.Probes.{AllTellable, all-rules, rules-told}
 use Rattle.laws.proofs.Ramps.{ramps-told}
-use Rattle.laws.proofs.Images.{AllBelow, FieldsFit, image-length, image-inj}
+use Rattle.laws.proofs.Images.{AllFit, each-fit, FieldsFit, image-length, complement-below, same-fields, image-inj}
 
 -- ---- every sample of a history that calls give was accepted
 
@@ -50,17 +54,10 @@ heard-accepted (c ∷ cs) h a = heard-accepted cs (heardOne h c) (by (callAccept
 
 -- ---- the fields of a history's record fit their widths
 
-counts-below : (h : History) (rs : List Rule) → AllTellable rs → AllBelow 4294967296 (map (countOf h) rs)
-counts-below h [] t = tt
-counts-below h (r ∷ rs) t = (omega (arith, t .0 .reach), counts-below h rs (t .1))
+counts-fit : (h : History) (rs : List Rule) → AllTellable rs → AllFit (map (field 4) (map (countOf h) rs))
+counts-fit h [] t = tt
+counts-fit h (r ∷ rs) t = (omega (arith, t .0 .reach), counts-fit h rs (t .1))
 
--- a record is its fields
-same-record : {b c : Board} → b .status ≡ c .status → b .counters ≡ c .counters → b .ramp ≡ c .ramp → b .watts ≡ c .watts → b .vars ≡ c .vars → b ≡ c
-same-record e₁ e₂ e₃ e₄ e₅ = made e₁ e₂ e₃ e₄ e₅
-  where
-    made : {s s′ : ℕ} {l l′ : List ℕ} {r r′ w w′ : ℕ} {v v′ : ℤ} → s ≡ s′ → l ≡ l′ → r ≡ r′ → w ≡ w′ → v ≡ v′
-        → _≡_ {A = Board} (record { status = s; counters = l; ramp = r; watts = w; vars = v }) (record { status = s′; counters = l′; ramp = r′; watts = w′; vars = v′ })
-    made p q r w v = rw (p, q, r, w, v)
 
 module _ (e : Equipment) (sound : Sound e) (st : Settings) (ok : settingsAccepted st ≡ true) where
   watts-below : (h : History) → AllAccepted h → historyWatts e st h ≤ 10000
@@ -84,15 +81,31 @@ module _ (e : Equipment) (sound : Sound e) (st : Settings) (ok : settingsAccepte
       by true = fits16 (curve (st .var) (mean e x)) (curve-small 10000 (st .var) (mean e x) (powers-small (st .var) (var-rises st ok)))
       by false = fits16 (pos 0) (omega arith)
 
+  status-below : (h : History) → historyStatus e st h < 256
+  unfolding historyStatus
+  status-below [] = lit< tt
+  status-below (x ∷ h) = by (serving e st (x ∷ h)) (regionOf e x) _
+    where
+      by : (on : Bool) (r : Region) (full : Bool) → statusOf on r full < 256
+      by false r full = lit< tt
+      by true Continuous false = lit< tt
+      by true Continuous true = lit< tt
+      by true Mandatory full = lit< tt
+      by true Momentary full = lit< tt
+      by true Cease full = lit< tt
+
   record-fits : (h : History) → AllAccepted h → FieldsFit (recordOf e st h)
-  unfolding rows
+  unfolding imageFields rows
   record-fits h a =
+      let counts = subst (λ (ns : List ℕ). AllFit (map (field 4) ns)) (sym (counters-are e st h)) (counts-fit h (rules e st) (rules-told e sound st ok)) in
+      let vars = subst (SFits w16) (sym (vars-is e st h)) (vars-fit h) in
+      let status : recordOf e st h .status < 256 ^ 1 = omega (arith, status-is e st h, status-below h) in
+      let ramp : recordOf e st h .ramp < 256 ^ 4 = omega (arith, ramp-is e st h, sheet-rows st ok .wait) in
+      let watts : recordOf e st h .watts < 256 ^ 2 = omega (arith, watts-is e st h, watts-below h a) in
       record {
         nine = ap length (counters-are e st h);
-        counts = subst (AllBelow 4294967296) (sym (counters-are e st h)) (counts-below h (rules e st) (rules-told e sound st ok));
-        ramps = subst (λ (n : ℕ). n < 4294967296) (sym (ramp-is e st h)) (omega (arith, sheet-rows st ok .wait));
-        powers = subst (λ (n : ℕ). n < 65536) (sym (watts-is e st h)) (omega (arith, watts-below h a));
-        signed = subst (SFits w16) (sym (vars-is e st h)) (vars-fit h);
+        signed = vars;
+        rows = (status, each-fit 4 (recordOf e st h .counters) counts _ (ramp, (watts, (complement-below _ vars, tt))));
       }
 
   -- ---- equal reports, now and after every common run: equal records
@@ -103,7 +116,7 @@ module _ (e : Equipment) (sound : Sound e) (st : Settings) (ok : settingsAccepte
       let now : historyReport e st h ≡ historyReport e st g = f [] zero-le tt in
       let s : recordOf e st h .status ≡ recordOf e st g .status = status-is e st h ∙ ap (λ (r : Items). r .status) now ∙ sym (status-is e st g) in
       let o : serving e st h ≡ serving e st g = sym (service-is e st h) ∙ ap inService s ∙ service-is e st g in
-      same-record s
+      same-fields s
       (counters-are e st h
       ∙ all-rules h g ha ga (rules e st) (rules-told e sound st ok) (λ run l a. ap (λ (r : Items). r .bits) (f run l a))
       ∙ sym (counters-are e st g))

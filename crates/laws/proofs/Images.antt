@@ -1,87 +1,117 @@
 -- The image of document 01, "Image and program": it has 45 bytes, and two records whose fields fit are told apart by it.
 -- Assumes nothing.
 use mathlib.Core.Path.{_≡_, refl, sym, ap, ap₂, _∙_}
-use mathlib.Core.List.{List, [], _∷_, _++_}
-use Prim.Native.Nat.{ℕ, _*_, _/_, _%_, _<_}
-use native.Mathlib.Nat.{suc-inj, div-div-eq-div-mul}
+use mathlib.Core.List.{List, [], _∷_, _++_, append-assoc, head-eq-of-cons-eq, tail-eq-of-cons-eq, map}
+use Prim.Native.Nat.{ℕ, zero, suc, _+_, _*_, _/_, _%_, _^_, _<_}
+use native.Mathlib.Nat.{suc-inj, pow-suc}
 use native.Mathlib.Omega.{arith}
 use lib.IntN.{ℤ, pos, negsuc}
 use lib.ListN.{length, length-append}
 use mir.Syntax.{w16}
 use mir.Val.{SFits}
-use Rattle.rules.specs.Images.{twoBytes, fourBytes, allInFour, twosComplement, image, imageLength}
+use Rattle.rules.specs.Images.{numberBytes, Field, field, fieldBytes, twosComplement, imageFields, image, imageLength}
 use Rattle.rules.specs.declared.Board.{Board}
 
--- every number of a list is below a bound
-abbrev pub AllBelow : ℕ → List ℕ → Type 0
-AllBelow k [] = Unit {0}
-AllBelow k (n ∷ ns) = (n < k) × AllBelow k ns
+-- ---- what fits
 
--- "The record's fields have these widths"; a status has one byte, and the image shows any as it is
+-- every field's number fits its width
+abbrev pub AllFit : List Field → Type 0
+AllFit [] = Unit {0}
+AllFit (f ∷ fs) = (f .value < 256 ^ f .width) × AllFit fs
+
+pub each-fit : (width : ℕ) (ns : List ℕ) → AllFit (map (field width) ns) → (fs : List Field) → AllFit fs → AllFit (map (field width) ns ++ fs)
+each-fit width [] a fs b = b
+each-fit width (n ∷ ns) a fs b = (a .0, each-fit width ns (a .1) fs b)
+
+-- a record of nine counters and vars of 16 bits, whose fields fit
 pub record FieldsFit (b : Board) : Type 0 where
   pub nine : length (b .counters) ≡ 9
-  pub counts : AllBelow 4294967296 (b .counters)
-  pub ramps : b .ramp < 4294967296
-  pub powers : b .watts < 65536
   pub signed : SFits w16 (b .vars)
+  pub rows : AllFit (imageFields b)
 
 -- ---- the length
 
-pub length-all-in-four : (ns : List ℕ) → length (allInFour ns) ≡ 4 * length ns
-unfolding allInFour fourBytes
-length-all-in-four [] = refl
-length-all-in-four (n ∷ ns) = omega (arith, length-all-in-four ns)
+pub number-length : (k n : ℕ) → length (numberBytes k n) ≡ k
+unfolding numberBytes
+number-length zero n = refl
+number-length (suc k) n = rw length-append (omega (arith, number-length k (n / 256)))
+
+-- the bytes of fields
+abbrev pub widths : List Field → ℕ
+widths [] = 0
+widths (f ∷ fs) = f .width + widths fs
+
+pub length-fields : (fs : List Field) → length (fieldBytes fs) ≡ widths fs
+unfolding fieldBytes
+length-fields [] = refl
+length-fields (f ∷ fs) = rw (length-append, number-length, length-fields fs)
+
+-- fields after fields
+pub fields-then : (fs gs : List Field) → fieldBytes (fs ++ gs) ≡ fieldBytes fs ++ fieldBytes gs
+unfolding fieldBytes
+fields-then [] gs = refl
+fields-then (f ∷ fs) gs = rw (append-assoc, fields-then fs gs)
+
+each-widths : (width : ℕ) (ns : List ℕ) (fs : List Field) → widths (map (field width) ns ++ fs) ≡ length ns * width + widths fs
+each-widths width [] fs = omega arith
+each-widths width (n ∷ ns) fs = omega (arith, each-widths width ns fs)
+
+-- the widths of a record's fields make up the image's length
+image-widths : (b : Board) → length (b .counters) ≡ 9 → widths (imageFields b) ≡ imageLength
+unfolding imageFields
+image-widths b nine = rw (each-widths, nine)
 
 pub image-length : (b : Board) → length (b .counters) ≡ 9 → length (image b) ≡ imageLength
-unfolding image fourBytes twoBytes
-image-length b nine = simp length-append (omega (arith, length-all-in-four (b .counters)))
+unfolding image
+image-length b nine = length-fields (imageFields b) ∙ image-widths b nine
 
--- ---- numbers by their bytes
+-- ---- fields by their bytes
 
--- a number is its quotient and its last byte
-low-byte : (n m : ℕ) → n / 256 ≡ m / 256 → n % 256 ≡ m % 256 → n ≡ m
-low-byte n m e d = omega arith
+number-inj : (k n m : ℕ) (xs ys : List ℕ) → n < 256 ^ k → m < 256 ^ k → numberBytes k n ++ xs ≡ numberBytes k m ++ ys → (n ≡ m) × (xs ≡ ys)
+unfolding numberBytes
+number-inj zero n m xs ys hn hm e = (omega arith, e)
+number-inj (suc k) n m xs ys hn hm e =
+    let high = numberBytes k (n / 256) in
+    let bytes = sym (append-assoc high ((n % 256) ∷ []) xs) ∙ e ∙ append-assoc (numberBytes k (m / 256)) ((m % 256) ∷ []) ys in
+    let t = number-inj k (n / 256) (m / 256) (n % 256 ∷ xs) (m % 256 ∷ ys) (omega (arith, pow-suc 256 k)) (omega (arith, pow-suc 256 k)) bytes in
+    let last : n % 256 ≡ m % 256 = cc (t .1) in
+    (omega (arith, t .0), cc (t .1))
 
--- one byte more of a quotient
-next-byte : (k n m : ℕ) → n / (k * 256) ≡ m / (k * 256) → n / k % 256 ≡ m / k % 256 → n / k ≡ m / k
-next-byte k n m e d = low-byte (n / k) (m / k) (div-div-eq-div-mul n k 256 ∙ e ∙ sym (div-div-eq-div-mul m k 256)) d
+abbrev widthOf : Field → ℕ
+widthOf f = f .width
 
--- the highest byte is the whole quotient
-high-byte : (n m : ℕ) → n < 4294967296 → m < 4294967296 → n / 16777216 % 256 ≡ m / 16777216 % 256 → n / 16777216 ≡ m / 16777216
-high-byte n m hn hm e =
-    let a : n / 16777216 < 256 = omega arith in
-    let b : m / 16777216 < 256 = omega arith in
-    small (n / 16777216) (m / 16777216) a b e
-  where
-    small : (x y : ℕ) → x < 256 → y < 256 → x % 256 ≡ y % 256 → x ≡ y
-    small x y hx hy h = omega arith
+abbrev valueOf : Field → ℕ
+valueOf f = f .value
 
-four-inj : (n m : ℕ) (xs ys : List ℕ) → n < 4294967296 → m < 4294967296 → fourBytes n ++ xs ≡ fourBytes m ++ ys → (n ≡ m) × (xs ≡ ys)
-unfolding fourBytes
-four-inj n m xs ys hn hm e =
-    let a : n / 16777216 % 256 ≡ m / 16777216 % 256 = cc in
-    let b : n / 65536 % 256 ≡ m / 65536 % 256 = cc in
-    let c : n / 256 % 256 ≡ m / 256 % 256 = cc in
-    let d : n % 256 ≡ m % 256 = cc in
-    (low-byte n m (next-byte 256 n m (next-byte 65536 n m (high-byte n m hn hm a) b) c) d, cc)
+-- fields of the same widths whose numbers fit are told apart by their bytes
+pub fields-inj : (fs gs : List Field) → map widthOf fs ≡ map widthOf gs → AllFit fs → AllFit gs → fieldBytes fs ≡ fieldBytes gs
+    → map valueOf fs ≡ map valueOf gs
+unfolding fieldBytes
+fields-inj [] [] w a b e = refl
+fields-inj [] (g ∷ gs) w a b e = let z : _≡_ {A = ℕ} 0 1 = cc in absurd (omega arith)
+fields-inj (f ∷ fs) [] w a b e = let z : _≡_ {A = ℕ} 0 1 = cc in absurd (omega arith)
+fields-inj (f ∷ fs) (g ∷ gs) w a b e =
+    let wide : f .width ≡ g .width = cc in
+    let t = number-inj (f .width) (f .value) (g .value) (fieldBytes fs) (fieldBytes gs) (a .0) (rw wide (b .0)) (e ∙ rw wide) in
+    ap₂ _∷_ (t .0) (fields-inj fs gs (cc) (a .1) (b .1) (t .1))
 
-two-inj : (n m : ℕ) (xs ys : List ℕ) → n < 65536 → m < 65536 → twoBytes n ++ xs ≡ twoBytes m ++ ys → (n ≡ m) × (xs ≡ ys)
-unfolding twoBytes
-two-inj n m xs ys hn hm e =
-    let c : n / 256 % 256 ≡ m / 256 % 256 = cc in
-    let d : n % 256 ≡ m % 256 = cc in
-    (omega arith, cc)
+-- numbers of one width among the fields: as many on both sides have the same widths, and the same numbers where the fields have
+each-same : (width : ℕ) (ns ms : List ℕ) (fs gs : List Field) → length ns ≡ length ms → map widthOf fs ≡ map widthOf gs
+    → map widthOf (map (field width) ns ++ fs) ≡ map widthOf (map (field width) ms ++ gs)
+each-same width [] [] fs gs l e = e
+each-same width [] (m ∷ ms) fs gs l e = absurd (omega arith)
+each-same width (n ∷ ns) [] fs gs l e = absurd (omega arith)
+each-same width (n ∷ ns) (m ∷ ms) fs gs l e = ap (λ (ws : List ℕ). width ∷ ws) (each-same width ns ms fs gs (suc-inj l) e)
 
-all-in-four-inj : (cs ds : List ℕ) → length cs ≡ length ds → AllBelow 4294967296 cs → AllBelow 4294967296 ds → (xs ys : List ℕ)
-    → allInFour cs ++ xs ≡ allInFour ds ++ ys → (cs ≡ ds) × (xs ≡ ys)
-unfolding allInFour fourBytes
-all-in-four-inj [] [] l a b xs ys e = (refl, e)
-all-in-four-inj [] (d ∷ ds) l a b xs ys e = absurd (omega arith)
-all-in-four-inj (c ∷ cs) [] l a b xs ys e = absurd (omega arith)
-all-in-four-inj (c ∷ cs) (d ∷ ds) l a b xs ys e =
-    let h = four-inj c d (allInFour cs ++ xs) (allInFour ds ++ ys) (a .0) (b .0) e in
-    let t = all-in-four-inj cs ds (suc-inj l) (a .1) (b .1) xs ys (h .1) in
-    (ap₂ _∷_ (h .0) (t .0), t .1)
+each-inj : (width : ℕ) (ns ms : List ℕ) (fs gs : List Field) → length ns ≡ length ms
+    → map valueOf (map (field width) ns ++ fs) ≡ map valueOf (map (field width) ms ++ gs) → (ns ≡ ms) × (map valueOf fs ≡ map valueOf gs)
+each-inj width [] [] fs gs l e = (refl, e)
+each-inj width [] (m ∷ ms) fs gs l e = absurd (omega arith)
+each-inj width (n ∷ ns) [] fs gs l e = absurd (omega arith)
+each-inj width (n ∷ ns) (m ∷ ms) fs gs l e =
+    let first : n ≡ m = cc in
+    let t = each-inj width ns ms fs gs (suc-inj l) (cc) in
+    (ap₂ _∷_ first (t .0), t .1)
 
 -- ---- two's complement
 
@@ -98,25 +128,22 @@ complement-inj (negsuc n) (negsuc m) f g e = ap negsuc (omega (arith, f .sfits, 
 -- ---- records by their images
 
 -- a record is its fields
-same-fields : (b c : Board) → b .status ≡ c .status → b .counters ≡ c .counters → b .ramp ≡ c .ramp → b .watts ≡ c .watts → b .vars ≡ c .vars → b ≡ c
-same-fields b c e₁ e₂ e₃ e₄ e₅ = made e₁ e₂ e₃ e₄ e₅
+pub same-fields : {b c : Board} → b .status ≡ c .status → b .counters ≡ c .counters → b .ramp ≡ c .ramp → b .watts ≡ c .watts → b .vars ≡ c .vars → b ≡ c
+same-fields e₁ e₂ e₃ e₄ e₅ = made e₁ e₂ e₃ e₄ e₅
   where
     made : {s s′ : ℕ} {l l′ : List ℕ} {r r′ w w′ : ℕ} {v v′ : ℤ} → s ≡ s′ → l ≡ l′ → r ≡ r′ → w ≡ w′ → v ≡ v′
         → _≡_ {A = Board} (record { status = s; counters = l; ramp = r; watts = w; vars = v })
         (record { status = s′; counters = l′; ramp = r′; watts = w′; vars = v′ })
     made e₁ e₂ e₃ e₄ e₅ = rw (e₁, e₂, e₃, e₄, e₅)
 
-first-inj : {n m : ℕ} {xs ys : List ℕ} → n ∷ xs ≡ m ∷ ys → (n ≡ m) × (xs ≡ ys)
-first-inj e = (cc, cc)
-
 -- two images are equal only if the records are
 pub image-inj : (b c : Board) → FieldsFit b → FieldsFit c → image b ≡ image c → b ≡ c
-unfolding image
+unfolding image imageFields
 image-inj b c f g e =
-    let r₀ = first-inj e in
-    let r₁ = all-in-four-inj (b .counters) (c .counters) (f .nine ∙ sym (g .nine)) (f .counts) (g .counts) _ _ (r₀ .1) in
-    let r₂ = four-inj (b .ramp) (c .ramp) _ _ (f .ramps) (g .ramps) (r₁ .1) in
-    let r₃ = two-inj (b .watts) (c .watts) _ _ (f .powers) (g .powers) (r₂ .1) in
-    let last = ap (λ (l : List ℕ). l ++ []) (r₃ .1) in
-    let r₄ = two-inj (twosComplement (b .vars)) (twosComplement (c .vars)) [] [] (complement-below _ (f .signed)) (complement-below _ (g .signed)) last in
-    same-fields b c (r₀ .0) (r₁ .0) (r₂ .0) (r₃ .0) (complement-inj _ _ (f .signed) (g .signed) (r₄ .0))
+    let nine = f .nine ∙ sym (g .nine) in
+    let widths = ap (λ (ws : List ℕ). 1 ∷ ws) (each-same 4 (b .counters) (c .counters) _ _ nine refl) in
+    let same = fields-inj (imageFields b) (imageFields c) widths (f .rows) (g .rows) e in
+    let counters = each-inj 4 (b .counters) (c .counters) _ _ nine (tail-eq-of-cons-eq same) in
+    let rest = counters .1 in
+    let vars : twosComplement (b .vars) ≡ twosComplement (c .vars) = cc in
+    same-fields (head-eq-of-cons-eq same) (counters .0) (cc) (cc) (complement-inj _ _ (f .signed) (g .signed) vars)

@@ -1,22 +1,42 @@
 -- The lines are their pieces, one after the other.
 -- Assumes nothing.
-use mathlib.Core.Path.{_≡_, refl, sym, ap}
+use mathlib.Core.Path.{_≡_, refl, sym, ap, _∙_}
 use mathlib.Core.Bool.{Bool, true, false, _&&_, false≢true}
-use mathlib.Core.List.{List, _++_, append-assoc}
+use mathlib.Core.List.{List, [], _∷_, _++_, append-assoc, append-nil}
 use Prim.Native.Nat.{ℕ}
 use borrow.Author.Tests.{eqb-true}
 use Rattle.rules.specs.Refusals.{refusalNumber}
-use Rattle.rules.specs.Text.{bytes, decimal, digitsBefore}
-use Rattle.rules.specs.Transcripts.{bitDigits, reportLine, refusedLine}
+use lib.IntN.{ℤ, pos}
+use lib.ListN.{drop}
+use Rattle.rules.specs.Text.{bytes, decimal, signedDecimal, digitsBefore}
+use Rattle.rules.specs.Transcripts.{bitDigits, spaced, spacedNumbers, reportNumbers, reportLine, refusedLine}
 use Rattle.rules.specs.declared.Report.{Report}
 use Rattle.rules.specs.declared.Refusal.{Refusal}
-use Rattle.lines.specs.Pieces.{statusWord, reportHead, spacedNumber, reportFront, reportEnd, isSteady}
+use Rattle.buffers.specs.Written.{Wrote}
+use Rattle.buffers.proofs.Writing.{and-then}
+use Rattle.lines.specs.Pieces.{statusWord, reportHead, reportFront, isSteady}
 
-pub report-pieces : (r : Report) → reportLine r ≡ reportFront r ++ (spacedNumber (r .watts) ++ reportEnd (r .vars))
-unfolding reportLine reportFront reportHead spacedNumber reportEnd statusWord
-report-pieces r =
-    rw (append-assoc (reportHead r) (spacedNumber (r .share)) (spacedNumber (r .watts) ++ reportEnd (r .vars)))
-    (sym (ap (λ (l : List ℕ). bytes "(report " ++ l) (append-assoc (statusWord (r .status)) (bytes " " ++ bitDigits 9 (r .bits)) _)))
+pub report-whole : (r : Report) → reportLine r ≡ reportHead r ++ (spacedNumbers (reportNumbers r) ++ bytes ")\n")
+unfolding reportLine reportHead statusWord
+report-whole r = sym (ap (λ (l : List ℕ). bytes "(report " ++ l) (append-assoc (statusWord (r .status)) (bytes " " ++ bitDigits 9 (r .bits)) _))
+
+-- numbers written one after the other, and then the line's end, are all of them and the end
+pub number-then : (z : ℤ) (zs : List ℤ) (e : List ℕ) {d d₁ d₂ : List ℕ} {at r₁ r₂ : ℕ} → Wrote d at d₁ r₁ (spaced z)
+    → Wrote d₁ r₁ d₂ r₂ (spacedNumbers zs ++ e) → Wrote d at d₂ r₂ (spacedNumbers (z ∷ zs) ++ e)
+unfolding spacedNumbers
+number-then z zs e w₁ w₂ = rw (append-assoc (spaced z)) (and-then w₁ w₂)
+
+pub numbers-end : (e : List ℕ) {d d₁ : List ℕ} {at r₁ : ℕ} → Wrote d at d₁ r₁ e → Wrote d at d₁ r₁ (spacedNumbers [] ++ e)
+unfolding spacedNumbers
+numbers-end e w = w
+
+-- the numbers that a line shows after the share
+abbrev pub afterShare : Report → List ℤ
+afterShare r = drop 1 (reportNumbers r)
+
+pub report-pieces : (r : Report) → reportLine r ≡ reportFront r ++ (spacedNumbers (afterShare r) ++ bytes ")\n")
+unfolding reportFront spacedNumbers
+report-pieces r = report-whole r ∙ simp append-assoc
 
 and-true : (a b : Bool) → (a && b) ≡ true → (a ≡ true) × (b ≡ true)
 and-true true true e = (refl, refl)
@@ -25,13 +45,13 @@ and-true false b e = absurd (false≢true e)
 
 -- the front of a steady report
 pub steady-front : (r : Report) → isSteady r ≡ true → reportFront r ≡ bytes "(report continuous 000000001 10000"
-unfolding reportFront reportHead spacedNumber statusWord bitDigits decimal digitsBefore
+unfolding reportFront reportHead spaced signedDecimal statusWord bitDigits decimal digitsBefore
 steady-front r t =
     let status = and-true _ _ t in
     let rest = and-true _ _ (status .1) in
     rw (eqb-true (r .status) 2 (status .0), eqb-true (r .bits) 1 (rest .0), eqb-true (r .share) 10000 (rest .1))
 
 pub refused-pieces : (cause : Refusal) (line : ℕ)
-    → refusedLine cause line ≡ bytes "(refused" ++ (spacedNumber (refusalNumber cause) ++ (spacedNumber line ++ bytes ")\n"))
-unfolding refusedLine spacedNumber
-refused-pieces cause line = refl
+    → refusedLine cause line ≡ bytes "(refused" ++ (spaced (pos (refusalNumber cause)) ++ (spaced (pos line) ++ bytes ")\n"))
+unfolding refusedLine spacedNumbers
+refused-pieces cause line = simp (append-assoc, append-nil)

@@ -5,10 +5,10 @@ use mathlib.Core.Bool.{Bool, _&&_}
 use mathlib.Core.List.{List, [], _∷_, _++_}
 use Prim.Native.Nat.{ℕ, _+_, _*_, _/_, _%_, _≤_}
 use lib.Dec.{eqb}
-use lib.IntN.{ℤ}
+use lib.IntN.{pos}
 use lib.ListN.{length, getD, take, drop}
-use Rattle.rules.specs.Text.{bytes, decimal, signedDecimal}
-use Rattle.rules.specs.Transcripts.{statusWords, bitDigits}
+use Rattle.rules.specs.Text.{bytes}
+use Rattle.rules.specs.Transcripts.{statusWords, bitDigits, spaced}
 use Rattle.rules.specs.declared.Report.{Report}
 
 -- the word of a status, none of an unknown one
@@ -26,12 +26,9 @@ pub record Row (table : List ℕ) (status : ℕ) : Type 0 where
 unfoldable pub reportHead : Report → List ℕ
 reportHead r = bytes "(report " ++ (statusWord (r .status) ++ (bytes " " ++ bitDigits 9 (r .bits)))
 
-unfoldable pub spacedNumber : ℕ → List ℕ
-spacedNumber n = bytes " " ++ decimal n
-
 -- a line's begin, as far as the share
 unfoldable pub reportFront : Report → List ℕ
-reportFront r = reportHead r ++ spacedNumber (r .share)
+reportFront r = reportHead r ++ spaced (pos (r .share))
 
 -- status continuous, of the nine bits ready alone, full share
 abbrev pub isSteady : Report → Bool
@@ -41,6 +38,19 @@ isSteady r = eqb (r .status) 2 && (eqb (r .bits) 1 && eqb (r .share) 10000)
 abbrev pub pair : ℕ → List ℕ
 pair n = (48 + n / 10) ∷ (48 + n % 10) ∷ []
 
--- the vars and the line's end
-unfoldable pub reportEnd : ℤ → List ℕ
-reportEnd vars = bytes " " ++ (signedDecimal vars ++ bytes ")\n")
+-- ---- room: no piece is longer
+
+-- the head: the begin, the longest status word, a space and nine bits
+abbrev pub headRoom : ℕ
+headRoom = 28
+
+-- a number of 16 bits after a space, with its sign
+abbrev pub numberRoom : ℕ
+numberRoom = 7
+
+-- a number of any length after a space, with its sign
+abbrev pub longRoom : ℕ
+longRoom = 22
+
+abbrev pub frontRoom : ℕ
+frontRoom = headRoom + numberRoom

@@ -1,12 +1,12 @@
 // Numbers as text: decimals without padding, a minus where negative, and bits.
 ghost use mathlib.Core.Path.{_≡_};
 ghost use Prim.Native.Nat.{_+_, _≤_, _<_};
-ghost use lib.IntN.{natAbs};
+ghost use lib.IntN.{pos, natAbs};
 ghost use lib.ListN.{length};
 ghost use Rattle.rules.specs.Text.{decimal, signedDecimal};
-ghost use Rattle.rules.specs.Transcripts.{bitDigits};
+ghost use Rattle.rules.specs.Transcripts.{bitDigits, spaced};
 ghost use Rattle.buffers.specs.Written.{Wrote};
-ghost use Rattle.lines.specs.Pieces.{pair};
+ghost use Rattle.lines.specs.Pieces.{longRoom, numberRoom, pair};
 use crate::copies::put_byte;
 
 // How many digits a number has.
@@ -51,7 +51,7 @@ fn put_pair(out: &mut [u8], at: usize, n: u32) -> usize
 }
 
 // A number of one digit or two.
-fn put_two(out: &mut [u8], at: usize, n: u32) -> usize
+fn put_two_digits(out: &mut [u8], at: usize, n: u32) -> usize
     requires { ⌜ (at + 2 ≤ length (now out)) × (n < 100) ⌝ }
     ensures { λ r. ⌜ Wrote (now (out .entry)) at (now (out .exit)) r (decimal n) ⌝ }
     ensures { λ r. ⌜ r ≤ at + 2 ⌝ }
@@ -63,26 +63,26 @@ fn put_two(out: &mut [u8], at: usize, n: u32) -> usize
 }
 
 // A number of up to four digits, two at a time.
-fn put_four(out: &mut [u8], at: usize, n: u32) -> usize
+fn put_four_digits(out: &mut [u8], at: usize, n: u32) -> usize
     requires { ⌜ (at + 4 ≤ length (now out)) × (n < 10000) ⌝ }
     ensures { λ r. ⌜ Wrote (now (out .entry)) at (now (out .exit)) r (decimal n) ⌝ }
     ensures { λ r. ⌜ r ≤ at + 4 ⌝ }
 {
     if n < 100 {
-        return put_two(out, at, n);
+        return put_two_digits(out, at, n);
     }
-    let a = put_two(out, at, n / 100);
+    let a = put_two_digits(out, at, n / 100);
     put_pair(out, a, n % 100)
 }
 
 // A number. Most are short.
-pub fn put_decimal(out: &mut [u8], at: usize, n: u64) -> usize
+fn put_decimal(out: &mut [u8], at: usize, n: u64) -> usize
     requires { ⌜ at + 20 ≤ length (now out) ⌝ }
     ensures { λ r. ⌜ Wrote (now (out .entry)) at (now (out .exit)) r (decimal n) ⌝ }
     ensures { λ r. ⌜ r ≤ at + 20 ⌝ }
 {
     if n < 10000 {
-        return put_four(out, at, n as u32);
+        return put_four_digits(out, at, n as u32);
     }
     put_long(out, at, n)
 }
@@ -97,10 +97,9 @@ fn magnitude(v: i16) -> u64
     wide as u64
 }
 
-pub fn put_signed(out: &mut [u8], at: usize, v: i16) -> usize
+fn put_signed(out: &mut [u8], at: usize, v: i16) -> usize
     requires { ⌜ at + 21 ≤ length (now out) ⌝ }
     ensures { λ r. ⌜ Wrote (now (out .entry)) at (now (out .exit)) r (signedDecimal v) ⌝ }
-    ensures { λ r. ⌜ r ≤ at + 21 ⌝ }
 {
     let n = magnitude(v);
     if v < 0 {
@@ -108,6 +107,36 @@ pub fn put_signed(out: &mut [u8], at: usize, v: i16) -> usize
         return put_decimal(out, a, n);
     }
     put_decimal(out, at, n)
+}
+
+// A space and a number of any length.
+pub fn put_long_number(out: &mut [u8], at: usize, n: u64) -> usize
+    requires { ⌜ at + longRoom ≤ length (now out) ⌝ }
+    ensures { λ r. ⌜ Wrote (now (out .entry)) at (now (out .exit)) r (spaced (pos n)) ⌝ }
+    ensures { λ r. ⌜ r ≤ at + longRoom ⌝ }
+{
+    let a = put_byte(out, at, b' ');
+    put_decimal(out, a, n)
+}
+
+// A space and a number of 16 bits.
+pub fn put_number(out: &mut [u8], at: usize, n: u16) -> usize
+    requires { ⌜ at + longRoom ≤ length (now out) ⌝ }
+    ensures { λ r. ⌜ Wrote (now (out .entry)) at (now (out .exit)) r (spaced (pos n)) ⌝ }
+    ensures { λ r. ⌜ r ≤ at + numberRoom ⌝ }
+{
+    let a = put_byte(out, at, b' ');
+    put_decimal(out, a, n as u64)
+}
+
+// A space and a signed number of 16 bits.
+pub fn put_signed_number(out: &mut [u8], at: usize, v: i16) -> usize
+    requires { ⌜ at + longRoom ≤ length (now out) ⌝ }
+    ensures { λ r. ⌜ Wrote (now (out .entry)) at (now (out .exit)) r (spaced v) ⌝ }
+    ensures { λ r. ⌜ r ≤ at + numberRoom ⌝ }
+{
+    let a = put_byte(out, at, b' ');
+    put_signed(out, a, v)
 }
 
 // The nine lowest bits, the lowest of them last.

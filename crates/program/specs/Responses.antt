@@ -6,14 +6,11 @@ use Prim.Native.Nat.{ℕ, _+_, _-_}
 use lib.Dec.{ltb, leb}
 use lib.ListN.{length, take}
 use Rattle.rules.specs.Samples.{Equipment}
+pub use Rattle.rules.specs.Transcripts.{lineRoom}
 use Rattle.rules.specs.Transcripts.{Line, ended, unended, linesIn, inputEnd}
 use Rattle.program.specs.States.{isDone, stopped, readState}
 use Rattle.program.specs.Saying.{Said, said, endText}
 use Rattle.program.specs.declared.State.{State}
-
--- room for one line that is written, whichever
-abbrev pub lineRoom : ℕ
-lineRoom = 128
 
 -- no line of a form is longer
 abbrev pub longest : ℕ

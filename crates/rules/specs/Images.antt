@@ -1,8 +1,8 @@
 -- Document 01, "Image and program" and "Turned-away input" 9: the 45 bytes of a record, high byte first, and the saving.
 -- Assumes nothing.
 use mathlib.Core.Bool.{cond}
-use mathlib.Core.List.{List, [], _∷_, _++_}
-use Prim.Native.Nat.{ℕ, _-_, _/_, _%_}
+use mathlib.Core.List.{List, [], _∷_, _++_, map}
+use Prim.Native.Nat.{ℕ, zero, suc, _-_, _/_, _%_}
 use lib.Dec.{leb}
 use lib.IntN.{ℤ, pos, negsuc}
 use lib.ListN.{length, drop}
@@ -10,16 +10,23 @@ use Rattle.rules.specs.declared.Board.{Board}
 use Rattle.rules.specs.declared.Refusal.the-variants.{Buffer}
 use Rattle.rules.specs.declared.Saved.{Saved}
 
-unfoldable pub twoBytes : ℕ → List ℕ
-twoBytes n = n / 256 % 256 ∷ n % 256 ∷ []
+-- a number in so many bytes, high byte first
+unfoldable pub numberBytes : ℕ → ℕ → List ℕ
+numberBytes zero n = []
+numberBytes (suc k) n = numberBytes k (n / 256) ++ ((n % 256) ∷ [])
 
-unfoldable pub fourBytes : ℕ → List ℕ
-fourBytes n = n / 16777216 % 256 ∷ n / 65536 % 256 ∷ n / 256 % 256 ∷ n % 256 ∷ []
+-- a field of the image: its width in bytes, and the number that stands there
+pub record Field : Type 0 where
+  pub width : ℕ
+  pub value : ℕ
 
--- each number in four bytes
-unfoldable pub allInFour : List ℕ → List ℕ
-allInFour [] = []
-allInFour (n ∷ ns) = fourBytes n ++ allInFour ns
+abbrev pub field : ℕ → ℕ → Field
+field width value = record { width = width; value = value }
+
+-- the fields one after the other
+unfoldable pub fieldBytes : List Field → List ℕ
+fieldBytes [] = []
+fieldBytes (f ∷ fs) = numberBytes (f .width) (f .value) ++ fieldBytes fs
 
 -- two's complement in 16 bits: -1 is 65535
 abbrev pub twosComplement : ℤ → ℕ
@@ -27,8 +34,14 @@ twosComplement (pos n) = n
 twosComplement (negsuc n) = 65535 - n
 
 -- status, nine counters, ramp count, watts, vars in two's complement; the record as it is, not as it is read
+unfoldable pub imageFields : Board → List Field
+imageFields b =
+    field 1 (b .status)
+    ∷ (map (field 4) (b .counters)
+    ++ (field 4 (b .ramp) ∷ field 2 (b .watts) ∷ field 2 (twosComplement (b .vars)) ∷ []))
+
 unfoldable pub image : Board → List ℕ
-image b = b .status ∷ (allInFour (b .counters) ++ (fourBytes (b .ramp) ++ (twoBytes (b .watts) ++ twoBytes (twosComplement (b .vars)))))
+image b = fieldBytes (imageFields b)
 
 abbrev pub imageLength : ℕ
 imageLength = 45

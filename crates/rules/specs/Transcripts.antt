@@ -6,12 +6,12 @@ use mathlib.Core.Option.{Option, none, some}
 use Prim.Native.Nat.{ℕ, zero, suc, _+_, _/_, _%_}
 use Prim.Native.String.{String}
 use lib.Dec.{eqb}
-use lib.IntN.{ℤ, natAbs}
+use lib.IntN.{ℤ, pos, natAbs}
 use lib.ListN.{take, drop, getD}
 use Rattle.rules.specs.Refusals.{refusalNumber}
 use Rattle.rules.specs.Samples.{Equipment}
 use Rattle.rules.specs.Records.{fresh, stepOf}
-use Rattle.rules.specs.Text.{bytes, feed, decimal, signedDecimal}
+use Rattle.rules.specs.Text.{bytes, feed, signedDecimal}
 use Rattle.rules.specs.Forms.{sampleForm, numbersOf}
 use Rattle.rules.specs.Sheets.{SheetReading, readSheet}
 use Rattle.rules.specs.declared.Settings.{Settings}
@@ -34,20 +34,35 @@ unfoldable pub bitDigits : ℕ → ℕ → List ℕ
 bitDigits zero n = []
 bitDigits (suc k) n = bitDigits k (n / 2) ++ ((48 + n % 2) ∷ [])
 
--- "status word, nine bits (sheet order, then ready), share, watts, vars"
+-- the numbers of a report line, in their order
+abbrev pub reportNumbers : Report → List ℤ
+reportNumbers r = pos (r .share) ∷ pos (r .watts) ∷ r .vars ∷ []
+
+-- a number after a space
+unfoldable pub spaced : ℤ → List ℕ
+spaced z = bytes " " ++ signedDecimal z
+
+unfoldable pub spacedNumbers : List ℤ → List ℕ
+spacedNumbers [] = []
+spacedNumbers (z ∷ zs) = spaced z ++ spacedNumbers zs
+
+-- status word, nine bits (sheet order, then ready), and the numbers
 unfoldable pub reportLine : Report → List ℕ
 reportLine r =
     bytes "(report " ++ (bytes (getD statusWords (r .status) "") ++ (bytes " " ++ (bitDigits 9 (r .bits)
-    ++ (bytes " " ++ (decimal (r .share) ++ (bytes " " ++ (decimal (r .watts) ++ (bytes " " ++ (signedDecimal (r .vars)
-    ++ bytes ")\n")))))))))
+    ++ (spacedNumbers (reportNumbers r) ++ bytes ")\n"))))
 
 -- "After `refused` come the number and the input line, from 1."
 unfoldable pub refusedLine : Refusal → ℕ → List ℕ
-refusedLine cause line = bytes "(refused " ++ (decimal (refusalNumber cause) ++ (bytes " " ++ (decimal line ++ bytes ")\n")))
+refusedLine cause line = bytes "(refused" ++ (spacedNumbers (pos (refusalNumber cause) ∷ pos line ∷ []) ++ bytes ")\n")
 
 abbrev pub answerLine : ℕ → Answer → List ℕ
 answerLine line (Answer.Reported r) = reportLine r
 answerLine line (Answer.Refused cause) = refusedLine cause line
+
+-- room for one line that is written, whichever
+abbrev pub lineRoom : ℕ
+lineRoom = 128
 
 -- ---- the lines that are read
 

@@ -1,5 +1,7 @@
 // The declared types of the interface board. What they mean stands in specs/, in the order of document 01. Those that a C or Rust
 // program lends are laid out as C lays them out.
+ghost use mathlib.Core.Path.{_≡_};
+ghost use Rattle.rules.specs.Refusals.{refusalNumber};
 
 // How many lines a sheet has; `sheetLines` in specs/.
 pub const SHEET_LINES: usize = 13;
@@ -77,6 +79,23 @@ pub enum Refusal {
     Power,
     Sample,
     Buffer,
+}
+
+// The number of a cause.
+pub fn refusal_number(cause: Refusal) -> u8
+    ensures { λ r. ⌜ r ≡ refusalNumber cause ⌝ }
+{
+    match cause {
+        Refusal::Form => 1,
+        Refusal::Range => 2,
+        Refusal::Rise => 3,
+        Refusal::Code => 4,
+        Refusal::Frequency => 5,
+        Refusal::Permission => 6,
+        Refusal::Power => 7,
+        Refusal::Sample => 8,
+        Refusal::Buffer => 9,
+    }
 }
 
 // What checking settings finds: nothing, or the first cause and its sheet line, counted from 1.

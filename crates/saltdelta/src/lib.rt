@@ -6,7 +6,6 @@ ghost use Rattle.rules.specs.Records.{fresh};
 ghost use Rattle.rules.specs.Images.{saveCheck, savedInto};
 ghost use Rattle.rules.specs.Sheets.{readSheet};
 ghost use Rattle.saltdelta.specs.Answers.{sheetAnswer, settingsAfter, recordAfter, reportAfter, noReport, stepNumber};
-use lines::refusal_number;
 use rules::Answer;
 use rules::Board;
 use rules::Refusal;
@@ -14,6 +13,7 @@ use rules::Report;
 use rules::Saved;
 use rules::Settings;
 use rules::SettingsCheck;
+use rules::refusal_number;
 
 // What reading a sheet answers: 0 and 0, or the refusal's number and its sheet line from 1; and where in the caller's own bytes the part
 // handed back begins, and its length.

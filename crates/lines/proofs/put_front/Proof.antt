@@ -25,13 +25,12 @@ returns : tie.Need-returns
 returns c =
     let test = c .before .before .before .before .before .before in
     let start = test .before .before in
-    (rw (steady-front (start .args .report) (sym (test .is-steady .ensures) ∙ c .before .before .before .before .before .if1 .taken)) (c .before .before .put .ensures), omega (arith, c .before .before .put .ensures .after))
+    let steady = sym (test .is-steady .ensures) ∙ c .before .before .before .before .before .if1 .taken in
+    let wrote = c .before .before .put .ensures in
+    (rw (steady-front (start .args .report) steady) wrote, omega (arith, wrote .after))
 
 put-head-requires : tie.Need-put-head-requires
 put-head-requires c κs = search needs
-
-cast-put-number : tie.Need-cast-put-number
-cast-put-number c = search needs
 
 put-number-requires : tie.Need-put-number-requires
 put-number-requires c κs = search needs
@@ -42,8 +41,9 @@ same-length-2 c = search needs
 returns-2 : tie.Need-returns-2
 unfolding reportFront
 returns-2 c =
-    let head = c .before .before .before .before .before .before .before in
-    (and-then (head .put-head .ensures .0) (c .before .before .put-number .ensures .0), omega (arith, head .put-head .ensures .1, c .before .before .put-number .ensures .1))
+    let share = c .before .before in
+    let head = share .before .before .before .before in
+    (and-then (head .put-head .ensures .0) (share .put-number .ensures .0), omega (arith, head .put-head .ensures .1, share .put-number .ensures .1))
 
 pub put-front-spec : {M : Type 1} → statement M
 put-front-spec =
@@ -55,7 +55,6 @@ put-front-spec =
     same-length
     returns
     put-head-requires
-    cast-put-number
     put-number-requires
     same-length-2
     returns-2)

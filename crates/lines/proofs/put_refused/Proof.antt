@@ -15,11 +15,14 @@ slice-aggregate-put c = search needs
 put-requires : tie.Need-put-requires
 put-requires c κs = search needs
 
-put-number-requires : tie.Need-put-number-requires
-put-number-requires c κs = search needs
+cast-put-long-number : tie.Need-cast-put-long-number
+cast-put-long-number c = search needs
 
-put-number-requires-2 : tie.Need-put-number-requires-2
-put-number-requires-2 c κs = search needs
+put-long-number-requires : tie.Need-put-long-number-requires
+put-long-number-requires c κs = search needs
+
+put-long-number-requires-2 : tie.Need-put-long-number-requires-2
+put-long-number-requires-2 c κs = search needs
 
 slice-aggregate-put-2 : tie.Need-slice-aggregate-put-2
 slice-aggregate-put-2 c = search needs
@@ -38,9 +41,9 @@ returns c =
     let begin = number .before .before .before .before in
     let cause = begin .before .before .before in
     let start = cause .before .before in
-    let named = rw (cause .refusal-number .ensures) at (number .put-number .ensures .0) in
+    let named = rw (cause .refusal-number .ensures) at (number .put-long-number .ensures .0) in
     rw (refused-pieces (start .args .cause) (start .args .line))
-    (and-then (begin .put .ensures) (and-then named (and-then (line .put-number2 .ensures .0) (close .put2 .ensures))))
+    (and-then (begin .put .ensures) (and-then named (and-then (line .put-long-number2 .ensures .0) (close .put2 .ensures))))
 
 pub put-refused-spec : {M : Type 1} → statement M
 put-refused-spec =
@@ -49,8 +52,9 @@ put-refused-spec =
     refusal-number-requires
     slice-aggregate-put
     put-requires
-    put-number-requires
-    put-number-requires-2
+    cast-put-long-number
+    put-long-number-requires
+    put-long-number-requires-2
     slice-aggregate-put-2
     put-requires-2
     same-length

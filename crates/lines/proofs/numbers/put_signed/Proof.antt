@@ -51,11 +51,9 @@ returns c =
     let digits = c .before .before in
     let minus = digits .before .before .before .before in
     let size = minus .before .before .before in
-    let start = size .before .before in (
-      rw (negative (start .args .v) (start .fits .v) (size .magnitude .result) (size .magnitude .ensures) (minus .before .before .if1 .taken))
-          (and-then (minus .put-byte .ensures) (digits .put-decimal .ensures .0)),
-      omega arith,
-    )
+    let start = size .before .before in
+    rw (negative (start .args .v) (start .fits .v) (size .magnitude .result) (size .magnitude .ensures) (minus .before .before .if1 .taken))
+    (and-then (minus .put-byte .ensures) (digits .put-decimal .ensures .0))
 
 put-decimal-requires-2 : tie.Need-put-decimal-requires-2
 put-decimal-requires-2 c κs = search needs
@@ -67,11 +65,9 @@ returns-2 : tie.Need-returns-2
 returns-2 c =
     let digits = c .before .before in
     let size = digits .before .before .before in
-    let start = size .before .before in (
-      rw (positive (start .args .v) (start .fits .v) (size .magnitude .result) (size .magnitude .ensures) (digits .before .before .if1 .left))
-          (digits .put-decimal2 .ensures .0),
-      omega arith,
-    )
+    let start = size .before .before in
+    rw (positive (start .args .v) (start .fits .v) (size .magnitude .result) (size .magnitude .ensures) (digits .before .before .if1 .left))
+    (digits .put-decimal2 .ensures .0)
 
 pub put-signed-spec : {M : Type 1} → statement M
 put-signed-spec =

@@ -1,10 +1,10 @@
--- `lines::numbers::put_two` meets its contract.
+-- `lines::numbers::put_two_digits` meets its contract.
 -- Assumes nothing.
 use native.Mathlib.Omega.{arith}
 use Rattle.lines.proofs.Decimals.{one-digit, two-digits}
 use borrow.Author.Needs.{needs}
-use Rattle.lines.proofs.numbers.put_two.Statement.{statement}
-use Rattle.lines.proofs.numbers.put_two.Tie as tie
+use Rattle.lines.proofs.numbers.put_two_digits.Statement.{statement}
+use Rattle.lines.proofs.numbers.put_two_digits.Tie as tie
 
 add-put-byte : tie.Need-add-put-byte
 add-put-byte c = search needs
@@ -34,8 +34,8 @@ returns-2 c =
     let start = c .before .before .before .before .before .before in
     (rw (two-digits (start .args .n) (c .before .before .before .before .if1 .left) (start .pre .1)) (c .before .before .put-pair .ensures), omega (arith, c .before .before .put-pair .ensures .after))
 
-pub put-two-spec : {M : Type 1} → statement M
-put-two-spec =
+pub put-two-digits-spec : {M : Type 1} → statement M
+put-two-digits-spec =
     tie.close
     (tie.spec
     add-put-byte

@@ -1,11 +1,12 @@
--- `lines::put_number` meets its contract: a space, and the number.
+-- `lines::numbers::put_long_number` meets its contract: a space, and the number.
 -- Assumes nothing.
 use borrow.Author.Needs.{needs}
 use native.Mathlib.Omega.{arith}
 use Rattle.buffers.proofs.Writing.{and-then}
-use Rattle.lines.specs.Pieces.{spacedNumber}
-use Rattle.lines.proofs.put_number.Statement.{statement}
-use Rattle.lines.proofs.put_number.Tie as tie
+use Rattle.rules.specs.Text.{signedDecimal}
+use Rattle.rules.specs.Transcripts.{spaced}
+use Rattle.lines.proofs.numbers.put_long_number.Statement.{statement}
+use Rattle.lines.proofs.numbers.put_long_number.Tie as tie
 
 put-byte-requires : tie.Need-put-byte-requires
 put-byte-requires c κs = search needs
@@ -17,9 +18,9 @@ same-length : tie.Need-same-length
 same-length c = search needs
 
 returns : tie.Need-returns
-unfolding spacedNumber
+unfolding spaced signedDecimal
 returns c =
     (and-then (c .before .before .before .before .before .before .put-byte .ensures) (c .before .before .put-decimal .ensures .0), omega arith)
 
-pub put-number-spec : {M : Type 1} → statement M
-put-number-spec = tie.close (tie.spec put-byte-requires put-decimal-requires same-length returns)
+pub put-long-number-spec : {M : Type 1} → statement M
+put-long-number-spec = tie.close (tie.spec put-byte-requires put-decimal-requires same-length returns)
