@@ -1,6 +1,6 @@
 /* The library from C. It makes calls from a fixed seed and writes them to one file and what the library answers to another, both in the
  * form of the comparison program's mode `calls`; tests/library.sh holds the answers against that program's. What that mode does not have
- * is checked here: document 01's sheet and its examples of refused ones, and that a refused call writes no byte of what is lent to it,
+ * is checked here: the sheet of spec 3.3 and the refused lines of spec 11.1, and that a refused call writes no byte of what is lent to it,
  * bytes of padding among them. It prints 'N passed, M failed' for these. */
 #include <inttypes.h>
 #include <stdio.h>
@@ -103,7 +103,7 @@ static const char *const sheet_lines[13] = {
     "(enter (volts 9170 10500))", "(enter (hertz 59500 60100))", "(enter (wait 30000 30000))",
     "(var (9200 4400) (9800 0) (10200 0) (10800 -4400))", "(watt (10600 10000) (11000 2000))"};
 
-/* Document 01's sheet with another line in place of line `at`, counted from 1. */
+/* The default sheet with another line in place of line `at`, counted from 1. */
 static size_t write_sheet(char *text, size_t at, const char *line) {
     size_t length = 0;
     for (size_t i = 0; i < 13; i++)

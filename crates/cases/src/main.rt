@@ -1,4 +1,4 @@
-// Executed cases: document 01, "Values at the edges" and "Turned-away input". Each line names a case and what the library gave.
+// Executed cases: spec 14.2, 11.1. Each line names a case and what the library gave.
 use libc::STDOUT_FILENO;
 use rules::Answer;
 use rules::Board;

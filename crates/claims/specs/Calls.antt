@@ -1,4 +1,4 @@
--- Document 01, "Two histories": lists of step calls on one record, and the accepted samples among them.
+-- Spec 12.1 to 12.3: lists of step calls on one record, and the accepted samples among them.
 -- Assumes nothing.
 use mathlib.Core.Path.{_≡_}
 use mathlib.Core.Bool.{Bool, false, cond, _&&_}
@@ -25,11 +25,11 @@ pub record Program : Type 0 where
   pub start : Board
   pub step : Board → Settings → Slice → Stepped
 
--- the program that the rules describe, with this equipment: a fresh board, and the step by document 01's rules
+-- the program that the rules describe, with this equipment: a fresh board, and the step by the rules
 abbrev pub ruledBy : Equipment → Program
 ruledBy e = record { start = fresh; step = stepOf e }
 
--- "its report, before any sample, is tripped with all bits and numbers 0"
+-- spec 8.2: the report of a fresh board
 abbrev pub freshReport : Report
 freshReport = record { status = 0; bits = 0; share = 0; watts = 0; vars = pos 0 }
 
@@ -43,7 +43,7 @@ abbrev pub lastReport : Report → Answer → Report
 lastReport old (Answer.Reported new) = new
 lastReport old (Answer.Refused cause) = old
 
--- "each call is lent it as the last one left it"
+-- spec 12.1: every call gets the record as the call before left it
 abbrev pub called : Program → Run → Call → Run
 called p r c =
     record {
@@ -64,7 +64,7 @@ runOf p cs = calledAll p (record { board = p .start; report = freshReport }) cs
 abbrev pub callAccepted : Call → Bool
 callAccepted c = settingsAccepted (c .settings) && sampleAccepted (c .slice)
 
--- the history, newest first, after one call more: "a refused call may stand anywhere and is no step"
+-- spec 12.3: the history, newest first, after one call more; a refused call adds nothing
 abbrev pub heardOne : History → Call → History
 heardOne h c = cond (callAccepted c) (c .slice ∷ h) h
 
@@ -76,7 +76,7 @@ heardAfter h (c ∷ cs) = heardAfter (heardOne h c) cs
 abbrev pub heard : List Call → History
 heard cs = heardAfter [] cs
 
--- "A call lends any slice, with the sheet's settings or with settings that 2 or 3 refuses."
+-- spec 12.2: the settings of the one sheet, or settings that are refused
 abbrev pub LendsUnder : Settings → Call → Type 0
 LendsUnder st c = (c .settings ≡ st) ⊎ (settingsAccepted (c .settings) ≡ false)
 

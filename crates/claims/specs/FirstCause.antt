@@ -1,4 +1,4 @@
--- Demand 1, for the library: document 01, "Turned-away input", as the list of causes of each public operation in its order.
+-- Demand 1, for the library (spec 11, 13.1): the causes of each public operation, as a list in their order.
 -- Assumes nothing.
 use mathlib.Core.Path.{_≡_}
 use mathlib.Core.Bool.{Bool, cond, not, _||_}
@@ -24,7 +24,7 @@ pub record Cause : Type 0 where
 abbrev pub cause : ℕ → Bool → Cause
 cause n b = record { number = n; holds = b }
 
--- "The first found is given": the number of the first cause that holds, 0 where none does
+-- spec 11.2: the number of the first cause that holds, 0 where none does
 abbrev pub first : List Cause → ℕ
 first [] = 0
 first (c ∷ cs) = cond (c .holds) (c .number) (first cs)
@@ -35,11 +35,11 @@ lineCauses [] lines = []
 lineCauses (r ∷ rs) [] = []
 lineCauses (r ∷ rs) (ps ∷ lines) = cause 2 (not (all (map (inRow r) ps))) ∷ cause 3 (not (rising ps)) ∷ lineCauses rs lines
 
--- "Sheet lines are checked in order, each for [2, 3]"
+-- spec 4.3: line by line, 2 before 3
 abbrev pub settingsCauses : Settings → List Cause
 settingsCauses st = lineCauses rows (linesOf st)
 
--- "samples for 8, 4, 5, 6, 7"
+-- spec 4.2: a sample's causes in their order
 abbrev pub sampleCauses : Slice → List Cause
 sampleCauses x =
     cause 8 (not (eqb (length x) 7))
@@ -65,5 +65,5 @@ pub record RefusesRightly (e : Equipment) : Type 0 where
   pub step-keeps : (b : Board) (st : Settings) (x : Slice) → 0 < answerNumber (stepOf e b st x .answer) → stepOf e b st x .board ≡ b
   pub save : (buffer : List ℕ) → savedNumber (saveCheck buffer) ≡ first (cause 9 (ltb (length buffer) imageLength) ∷ [])
   pub save-keeps : (b : Board) (buffer : List ℕ) → 0 < savedNumber (saveCheck buffer) → savedInto b buffer ≡ buffer
-  -- "Bytes after it are untouched"
+  -- spec 9.3: the bytes behind the image
   pub save-rest : (b : Board) (buffer : List ℕ) → length (b .counters) ≡ 9 → drop imageLength (savedInto b buffer) ≡ drop imageLength buffer

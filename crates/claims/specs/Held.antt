@@ -1,4 +1,4 @@
--- Demand 2, "for its whole time, ending there": what held at each of the last n samples.
+-- Demand 2 (spec 13.2): what held at each of the last n samples.
 -- Assumes nothing.
 use mathlib.Core.Path.{_≡_}
 use mathlib.Core.Bool.{Bool, true}
@@ -20,10 +20,10 @@ pub record Held (test : Slice → Bool) (n : ℕ) (h : History) : Type 0 where
 abbrev pub brokenAt : Equipment → Settings → ℕ → Slice → Bool
 brokenAt e st i = broken e (getD kinds i undervoltage) (limitAt st i .level)
 
--- "some limit has been broken for its whole clearing time, ending there"
+-- spec 13.2: some limit was broken at each of the last samples of its clearing time
 abbrev pub RanOut : Equipment → Settings → History → Type 0
 RanOut e st h = (i : ℕ) × (i < 8) × Held (brokenAt e st i) (limitAt st i .clearing) h
 
--- "its full wait (a wait of 0 being one step) has just been in range with permission on"
+-- spec 13.2: the enter-service criteria held at each of the last samples of the wait, at least one
 abbrev pub WaitFull : Equipment → Settings → History → Type 0
 WaitFull e st h = Held (inRange e st) (max 1 (st .wait)) h

@@ -1,4 +1,4 @@
--- Demand 1, for reading a sheet: document 01, "Turned-away input". Each line's causes stand by themselves, by the line's place in the text and
+-- Demand 1, for reading a sheet (spec 3.7 to 3.10, 13.1). Each line's causes stand by themselves, by the line's place in the text and
 -- not by a run of the reader. Lines are counted from 0.
 -- Assumes nothing.
 use mathlib.Core.Path.{_≡_}
@@ -62,8 +62,8 @@ pub record FirstCauseAt (s : List ℕ) (i n : ℕ) : Type 0 where
   pub here : lineCause i s ≡ n
   pub before : (k : ℕ) → k < i → lineCause k s ≡ 0
 
--- of every text s: reading it refuses with n at a line exactly when that is the first line with a cause and n the line's first cause, in document 01's
--- order; and accepts exactly when no line has a cause
+-- of every text s: reading it refuses with n at a line exactly when that is the first line with a cause and n the line's first cause, in the
+-- order of spec 3.7; and accepts exactly when no line has a cause
 pub record SheetsRefusedRightly : Type 0 where
   pub refuses : (s : List ℕ) (i n : ℕ) → 0 < n → ((settingsNumber (readSheet s .check) ≡ n) × (lineOf (readSheet s .check) ≡ i + 1)) ↔ FirstCauseAt s i n
   pub accepts : (s : List ℕ) → (readSheet s .check ≡ SettingsCheck.Accepted) ↔ ((i : ℕ) → i < 13 → lineCause i s ≡ 0)
@@ -71,7 +71,7 @@ pub record SheetsRefusedRightly : Type 0 where
   pub settings : (s : List ℕ) → readSheet s .check ≡ SettingsCheck.Accepted
       → readSheet s .settings ≡ settingsOf (map (λ i. linePairs i s) (0 ∷ 1 ∷ 2 ∷ 3 ∷ 4 ∷ 5 ∷ 6 ∷ 7 ∷ 8 ∷ 9 ∷ 10 ∷ 11 ∷ 12 ∷ []))
   pub no-settings : (s : List ℕ) → 0 < settingsNumber (readSheet s .check) → readSheet s .settings ≡ settingsOf []
-  -- "hands back the refused line as a part of the caller's own bytes, without its line feed; a missing line is the empty part at the end": the part
+  -- spec 3.9: the part handed back
   -- begins where the text has that line, which is inside it, and at the end where there is none (`IsPart` in sheet/specs/Parts.antt: in the caller's memory too)
   pub place : (s : List ℕ) (i n : ℕ) → 0 < n → FirstCauseAt s i n → drop (readSheet s .start) s ≡ fromLine i s
   pub inside : (s : List ℕ) → readSheet s .start ≤ length s

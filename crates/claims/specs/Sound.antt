@@ -1,4 +1,4 @@
--- Document 01, "Sensing" and rule 3: the few facts about sensing and voltage regions that the demands rest on.
+-- Spec 2, 6.7: the few facts about sensing and voltage regions that the demands rest on.
 -- Assumes nothing.
 use mathlib.Core.Path.{_≡_}
 use Prim.Native.Nat.{ℕ, _≤_, _<_}

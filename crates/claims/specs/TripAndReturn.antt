@@ -1,4 +1,4 @@
--- Demand 2 (document 01, "One sample"), as a claim about any program that could be called a board.
+-- Demand 2 (spec 13.2), as a claim about any program that could be called a board.
 -- Assumes nothing.
 use mathlib.Core.Path.{_≡_}
 use mathlib.Core.Bool.{true, false}
@@ -73,7 +73,7 @@ pub record TripAndReturn (e : Equipment) (p : Program) (st : Settings) : Type 0 
       → regionOf e (c .slice) ≡ Continuous
 
 -- the counter rule, for an arbitrary rule: its counter is full exactly when what it counts held at each of the last samples of its whole
--- time, ending at the newest; and one sample more counts as document 01 says
+-- time, ending at the newest; and one sample more counts as spec 6.1 says
 pub record CounterRule (r : Rule) : Type 0 where
   pub full-held : (h : History) → (full r (countOf h r) ≡ true) ↔ Held (r .counts) (r .top) h
   pub one-more : (x : Slice) (h : History) → counted x r (countOf h r) ≡ countOf (x ∷ h) r

@@ -1,4 +1,4 @@
--- Demand 3, as a claim about any program that could be called a board: document 01, "Two histories".
+-- Demand 3, as a claim about any program that could be called a board: spec 12.4 to 12.7, 13.3.
 -- Assumes nothing.
 use mathlib.Core.Path.{_≡_}
 use mathlib.Core.Bool.{true}
@@ -19,7 +19,7 @@ abbrev pub AllAccepted : List Slice → Type 0
 AllAccepted [] = Unit {0}
 AllAccepted (x ∷ xs) = (sampleAccepted x ≡ true) × AllAccepted xs
 
--- "A common run is 0 to 100,000 accepted samples, the same put after both lists; the reports compared are those at its end."
+-- spec 12.5: every common run
 -- Items are compared, not the packed report: there are always nine bits, so the two agree.
 abbrev pub AgreeBy : (History → Items) → History → History → Type 0
 AgreeBy report h g =
@@ -40,6 +40,6 @@ TwoHistoriesBy saved report p st =
 abbrev pub Demand3By : (Board → List ℕ → List ℕ) → (Settings → History → Items) → Program → Type 0
 Demand3By saved report p = (st : Settings) → settingsAccepted st ≡ true → TwoHistoriesBy saved report p st
 
--- demand 3, of a board program: by the saving of document 01 and the reports that histories give, under every accepted sheet
+-- demand 3, of a board program: by the saving of spec 9 and the reports that histories give, under every accepted sheet
 abbrev pub Demand3 : Equipment → Program → Type 0
 Demand3 e p = Demand3By savedInto (historyReport e) p

@@ -37,7 +37,7 @@ missed = refl
 pub no-large : ¬ ReadsForms largeNoNumber
 no-large d = Option·none-ne-some outside (sym missed ∙ d 3 (omega arith) (filledIn (formAt 3) outside) outside .1 (record { text = refl; suit = suited }))
 
--- ---- a sample of document 01's listing
+-- ---- a sample of spec 10.11
 
 abbrev sample : Slice
 sample = 1000 ∷ 1000 ∷ 1000 ∷ 60000 ∷ 1 ∷ 10000 ∷ 10000 ∷ []

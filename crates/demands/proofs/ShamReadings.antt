@@ -35,7 +35,7 @@ reading = record { check = SettingsCheck.Accepted; settings = quick; start = len
 ours : readSheet (writtenSheet quick) ≡ reading
 ours = ap readSheet (sym (append-nil (writtenSheet quick))) ∙ sheet-read-back quick [] complete accepted
 
--- document 01's own example has a wait of 0
+-- the example of spec 10.11 has a wait of 0
 pub turned-away : ¬ ReadsSheetsBack refusesNoWait
 unfolding refusesNoWait
 turned-away d =

@@ -9,7 +9,7 @@
 -- `saltdelta_step` are those of `stepOf ourEquipment`, the answer and settings of `saltdelta_read_sheet` those of `readSheet` and `handedBack`
 -- (saltdelta/specs/Answers.antt); `saltdelta_save` has `saveCheck` and `savedInto`. A refused one leaves record, report, settings and buffer as they
 -- were lent: saltdelta/proofs/Refusals.antt.
--- `ourEquipment` is document 01's sensing rule and the Category III voltage regions. The words of the statements are defined in the crates
+-- `ourEquipment` is the sensing rule of spec 2.2 and the voltage regions of spec 6.7. The words of the statements are defined in the crates
 -- `claims`, `rules`, `roots`, `formats` and `program`.
 -- Assumes nothing.
 use mathlib.Core.Path.{_≡_}
@@ -52,7 +52,7 @@ ours = ruledBy ourEquipment
 -- ---- the three demands
 
 -- Demand 1, for the library: `RefusesRightly` in claims/specs/FirstCause.antt. Checking settings, sensing, the step and the saving refuse with n
--- exactly when n is the first cause in document 01's order, accept input with none of the causes, and a refusal leaves the record's
+-- exactly when n is the first cause in the order of spec 11.2, accept input with none of the causes, and a refusal leaves the record's
 -- fields and every byte of a lent slice or buffer as they were. (That the operations stay inside their buffers and their arithmetic and
 -- end is part of each function's own proof.)
 abbrev pub OurRefusals : Type 0
@@ -92,9 +92,8 @@ OurTwoHistories = Demand3 ourEquipment ours
 
 -- ---- what is accepted, without a parser
 
--- Good sheets are read: `ReadsSheetsBack` in formats/specs/Sheets.antt. Settings that 2 and 3 pass, written out as document 01's thirteen
--- lines, each ended by a line feed (`writtenSheet`), are accepted whatever bytes follow ("Bytes past the thirteenth line are not the
--- sheet's"), with those settings, and the reading ends where the sheet does. A reading that turns away a good sheet does not meet this.
+-- Good sheets are read: `ReadsSheetsBack` in formats/specs/Sheets.antt. Settings that 2 and 3 pass, written out as the thirteen
+-- lines of spec 3.2, each ended by a line feed (`writtenSheet`), are accepted whatever bytes follow (spec 3.8), with those settings, and the reading ends where the sheet does. A reading that turns away a good sheet does not meet this.
 abbrev pub SheetsReadBack : Type 0
 SheetsReadBack = ReadsSheetsBack readSheet
 
@@ -109,7 +108,7 @@ abbrev pub OneSheetReading : Type 0
 OneSheetReading =
     (read : List ℕ → SheetReading) → ReadsSheetsBack read → AcceptsSheetsOnly read → (s : List ℕ) → AcceptAlike (read s) (readSheet s)
 
--- Document 01's default sheet, byte for byte, is its settings written out.
+-- The default sheet (spec 3.3), byte for byte, is its settings written out.
 abbrev pub DefaultSheetWritten : Type 0
 DefaultSheetWritten = writtenSheet defaultSettings ≡ defaultSheet
 
@@ -166,7 +165,7 @@ StarredEdges = EdgesHold
 
 -- ---- the demands are not empty: shams do not meet them
 
--- The sham boards of document 01 do not meet demand 2 on its own example sheet: some list of calls tells each of them from ours. That sheet
+-- The sham boards of spec 13.6 do not meet demand 2 on the sheet of spec 10.11: some list of calls tells each of them from ours. That sheet
 -- is accepted, so that demand 2, which speaks of every accepted sheet, is false of each of them.
 pub record ShamsCaught : Type 0 where
   pub accepted : settingsAccepted (exampleSheet 0) ≡ true
@@ -185,7 +184,7 @@ pub record ShamImagesCaught : Type 0 where
   pub ninth : ¬ TwoHistoriesBy savedWithoutNinth (historyReport ourEquipment) ours (exampleSheet 2)
   pub bits : ¬ TwoHistoriesBy savedInto reportWithoutBits ours (exampleSheet 0)
 
--- A reading that refuses a wait of 0 turns away document 01's example sheet, and one that takes a sheet whose last line is unended
+-- A reading that refuses a wait of 0 turns away the sheet of spec 10.11, and one that takes a sheet whose last line is unended
 -- accepts more than sheets. One that finds no form in a line with a number above 100000 would give 1 in place of 2. Answers that step on an
 -- unended sample line, or on one with a carriage return before its line feed, take more than samples.
 pub record ShamReadingsCaught : Type 0 where

@@ -1,4 +1,4 @@
--- Document 01, "Values at the edges": the starred cases, as rows of one table.
+-- Spec 14.1: edge values, as rows of one table.
 -- Assumes nothing.
 use mathlib.Core.Path.{_≡_}
 use mathlib.Core.Bool.{Bool, true, false}

@@ -1,4 +1,4 @@
--- Document 01, "What a contract says of the board": the sham boards that demand 2 must stop; sham images and reports that demand 3 must
+-- Spec 13.6: the sham boards that demand 2 must stop; sham images and reports that demand 3 must
 -- stop; sham readings of sheets and of lines; and sham answers to sample lines.
 -- Assumes nothing.
 use mathlib.Core.Bool.{Bool, false, cond, _&&_}
@@ -30,7 +30,7 @@ use Rattle.rules.specs.declared.Stepped.{Stepped}
 use Rattle.formats.specs.Samples.{Answering}
 use Rattle.claims.specs.Calls.{Program}
 
--- document 01's default sheet with `(enter (wait W 100))`
+-- the default sheet (spec 3.3) with `(enter (wait W 100))`
 abbrev limit : ℕ → ℕ → Limit
 limit level clearing = record { level = level; clearing = clearing }
 
@@ -72,7 +72,7 @@ reporting st b = record { board = b; answer = Answer.Reported (reportOf (shown o
 abbrev trippedInstead : Settings → Slice → Board → Stepped
 trippedInstead st x b = reporting st (settled ourEquipment st x (b .counters) false 0)
 
--- "reports tripped before a clearing time is full": in service, as soon as a limit's counter is not 0
+-- trips before a clearing time is over: in service, as soon as a limit's counter is not 0
 unfoldable pub tripsEarly : Program
 tripsEarly =
     record {
@@ -86,7 +86,7 @@ tripsEarly =
 abbrev withCounters : List ℕ → Board → Board
 withCounters ns b = record { status = b .status; counters = ns; ramp = b .ramp; watts = b .watts; vars = b .vars }
 
--- "shows invented counters": its reports are right, and its record holds every counter twice over
+-- invents its counters: its reports are right, and its record holds every counter twice over
 unfoldable pub inventsCounters : Program
 inventsCounters =
     record {
@@ -96,7 +96,7 @@ inventsCounters =
           record { board = withCounters (map (λ n. 2 * n) (t .board .counters)) (t .board); answer = t .answer };
     }
 
--- "is always tripped"
+-- is tripped for ever
 unfoldable pub alwaysTripped : Program
 alwaysTripped =
     record {
@@ -108,15 +108,15 @@ alwaysTripped =
 abbrev untouched : Board → Bool
 untouched b = eqb (b .status) 0 && all (map (λ n. eqb n 0) (b .counters))
 
--- "works out the first sample and repeats that report"
+-- works out a single sample and says the same from then on
 unfoldable pub repeatsFirst : Program
 repeatsFirst = record { start = fresh; step = λ b st x. cond (untouched b) (honest b st x) (reporting st b) }
 
--- "never touches its record"
+-- never writes to its record
 unfoldable pub keepsRecord : Program
 keepsRecord = record { start = fresh; step = λ b st x. record { board = b; answer = honest b st x .answer } }
 
--- "turns away good sheets or samples": it keeps its record as it should, and refuses with 4 every sample that leaves the status as it was
+-- turns away good samples: it keeps its record as it should, and refuses with 4 every sample that leaves the status as it was
 unfoldable pub turnsAway : Program
 turnsAway =
     record {
@@ -144,7 +144,7 @@ reportWithoutBits st h =
 
 -- ---- sham readings of sheets
 
--- "turns away good sheets": it refuses a wait of 0, which its row allows
+-- turns away good sheets: it refuses a wait of 0, which its row allows
 unfoldable pub refusesNoWait : List ℕ → SheetReading
 refusesNoWait s = cond (eqb (readSheet s .settings .wait) 0) (refusedAt Range 11 0) (readSheet s)
 

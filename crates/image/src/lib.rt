@@ -1,4 +1,4 @@
-// Document 01, "Image and program": the image of a board record, 45 bytes, high byte first.
+// Spec 9: the image of a board record, 45 bytes, high byte first.
 ghost use mathlib.Core.Path.{_≡_};
 ghost use mathlib.Core.List.{map};
 ghost use Prim.Native.Nat.{_+_, _≤_};

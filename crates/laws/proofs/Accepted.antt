@@ -19,7 +19,7 @@ use Rattle.rules.specs.declared.Refusal.{Refusal}
 use Rattle.rules.specs.declared.Refusal.the-variants.{Range, Rise, Code, Frequency, Permission, Power, Sample}
 use Rattle.rules.specs.declared.SettingsCheck.{SettingsCheck}
 use Rattle.rules.specs.declared.SampleCheck.{SampleCheck}
-use Rattle.laws.proofs.Bools.{both, at-all, within-true}
+use Rattle.basics.proofs.Bools.{both, at-all, within-true}
 
 -- ---- a sheet
 

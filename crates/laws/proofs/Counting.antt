@@ -1,4 +1,4 @@
--- Rules 1 and 2 for an arbitrary rule: the counter of a history is its streak, cut at the top.
+-- Spec 6.1 and 6.4 for an arbitrary rule: the counter of a history is its streak, cut at the top.
 -- Assumes nothing.
 use mathlib.Core.Path.{_≡_, refl, ap₂, subst}
 use mathlib.Core.Bool.{Bool, true, false, cond}
@@ -10,7 +10,7 @@ use Rattle.rules.specs.Counters.{Rule, counted, full}
 use Rattle.rules.specs.Records.{each, capped}
 use Rattle.rules.specs.History.{History, streak, complete}
 use Rattle.claims.specs.TripAndReturn.{countOf}
-use Rattle.laws.proofs.Bools.{eqb-min}
+use Rattle.basics.proofs.Bools.{eqb-min}
 
 -- one sample more
 pub counted-is : (x : Slice) (h : History) (r : Rule) → counted x r (countOf h r) ≡ countOf (x ∷ h) r

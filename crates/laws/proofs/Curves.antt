@@ -15,7 +15,7 @@ use Rattle.rules.specs.Tests.{all}
 use Rattle.rules.specs.Settings.{Row, rows, inRow, rising, linesOf, settingsAccepted, pointPair}
 use Rattle.rules.specs.declared.Point.{Point}
 use Rattle.rules.specs.declared.Settings.{Settings}
-use Rattle.laws.proofs.Bools.{both, at-all}
+use Rattle.basics.proofs.Bools.{both, at-all}
 use Rattle.laws.proofs.Accepted.{rowAt, sheet-line}
 use Rattle.power.specs.Points.{Allowed, RisesFrom, Rises, NonNegative}
 

@@ -1,4 +1,4 @@
--- Demand 2 holds of the board by document 01's rules, for any sound equipment.
+-- Demand 2 (spec 13.2) holds of the board by the rules, for any sound equipment.
 -- Assumes nothing.
 use mathlib.Core.Path.{_≡_, refl, sym, ap, ap₂, _∙_}
 use mathlib.Core.Bool.{Bool, true, false, cond, _&&_, false≢true, true≢false}
@@ -29,7 +29,7 @@ use Rattle.rules.specs.declared.Stepped.{Stepped}
 use Rattle.claims.specs.Calls.{Call, Run, ruledBy, freshReport, lastReport, called, calledAll, runOf, callAccepted, heardOne, heardAfter, heard, LendsUnder, Under}
 use Rattle.claims.specs.Sound.{Sound}
 use Rattle.claims.specs.TripAndReturn.{recordOf, Next, TripAndReturn, CounterRule, Demand2}
-use Rattle.laws.proofs.Bools.{both}
+use Rattle.basics.proofs.Bools.{both}
 use Rattle.laws.proofs.Limits.{LimitsIn, limits-in}
 use Rattle.laws.proofs.Trace.{service-is, status-is, next-is, shown-is}
 use Rattle.laws.proofs.Counting.{counted-is, full-is}

@@ -1,4 +1,4 @@
--- Demand 3 holds of the board by document 01's rules, for any sound equipment.
+-- Demand 3 (spec 13.3) holds of the board by the rules, for any sound equipment.
 -- Assumes nothing.
 use mathlib.Core.Path.{_≡_, refl, sym, ap, _∙_, subst}
 use mathlib.Core.Bool.{Bool, true, false, cond}
@@ -32,7 +32,7 @@ use Rattle.claims.specs.TripAndReturn.{countOf, recordOf}
 use Rattle.claims.specs.TwoHistories.{AllAccepted, Agree, TwoHistoriesBy, Demand3}
 use Rattle.power.proofs.CurveLaws.{curve-small}
 use Rattle.power.proofs.PointLists.{powers-small}
-use Rattle.laws.proofs.Bools.{both}
+use Rattle.basics.proofs.Bools.{both}
 use Rattle.laws.proofs.Accepted.{sample-right, sheet-rows}
 use Rattle.laws.proofs.Curves.{fits16, var-rises}
 use Rattle.laws.proofs.Least.{least-below}

@@ -1,4 +1,4 @@
--- Every public operation refuses with the first cause in document 01's order, and a refusal changes nothing.
+-- Every public operation refuses with the first cause in the order of spec 11.2, and a refusal changes nothing.
 -- Assumes nothing.
 use mathlib.Core.Path.{_≡_, refl, sym, ap, ap₂, _∙_}
 use mathlib.Core.Bool.{Bool, true, false, cond, not, _&&_, _||_}

@@ -1,4 +1,4 @@
--- The image of document 01, "Image and program": it has 45 bytes, and two records whose fields fit are told apart by it.
+-- The image (spec 9): it has 45 bytes, and two records whose fields fit are told apart by it.
 -- Assumes nothing.
 use mathlib.Core.Path.{_≡_, refl, sym, ap, ap₂, _∙_}
 use mathlib.Core.List.{List, [], _∷_, _++_, append-assoc, head-eq-of-cons-eq, tail-eq-of-cons-eq, map}

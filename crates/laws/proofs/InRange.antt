@@ -15,7 +15,7 @@ use Rattle.rules.specs.Regions.{voltageRegion, frequencyRegion, worse}
 use Rattle.rules.specs.declared.Region.{Region}
 use Rattle.rules.specs.declared.Region.the-variants.{Continuous}
 use Rattle.rules.specs.declared.Settings.{Settings}
-use Rattle.laws.proofs.Bools.{at-all, within-true, true-within}
+use Rattle.basics.proofs.Bools.{at-all, within-true, true-within}
 use Rattle.laws.proofs.Accepted.{sheet-rows}
 use Rattle.laws.proofs.Limits.{LevelIn}
 

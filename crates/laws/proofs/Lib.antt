@@ -1,4 +1,3 @@
-pub mod Bools
 pub mod Accepted
 pub mod Limits
 pub mod InRange

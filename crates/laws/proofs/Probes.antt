@@ -19,7 +19,7 @@ use Rattle.rules.specs.declared.Settings.{Settings}
 use Rattle.claims.specs.Sound.{Sound}
 use Rattle.claims.specs.TripAndReturn.{countOf}
 use Rattle.claims.specs.TwoHistories.{AllAccepted}
-use Rattle.laws.proofs.Bools.{true-within}
+use Rattle.basics.proofs.Bools.{true-within}
 use Rattle.laws.proofs.Accepted.{sample-right, sheet-rows}
 use Rattle.laws.proofs.Limits.{LevelIn, LimitsIn, limits-in}
 use Rattle.laws.proofs.Told.{told, carry, streak-run}

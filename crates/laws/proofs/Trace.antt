@@ -21,7 +21,7 @@ use Rattle.rules.specs.declared.Board.{Board}
 use Rattle.rules.specs.declared.Region.{Region}
 use Rattle.rules.specs.declared.Region.the-variants.{Continuous, Mandatory, Momentary, Cease}
 use Rattle.claims.specs.TripAndReturn.{countOf, recordOf}
-use Rattle.laws.proofs.Bools.{eqb-min}
+use Rattle.basics.proofs.Bools.{eqb-min}
 use Rattle.laws.proofs.Counting.{counted-is, capped-is, full-is, each-of, each-all}
 
 pub service-status : (on : Bool) (r : Region) (f : Bool) → inService (statusOf on r f) ≡ on
@@ -89,7 +89,7 @@ module _ (e : Equipment) (st : Settings) where
   ramp-step true true true top n = omega arith
   ramp-step true true false top n = omega arith
 
-  -- rules 1 to 8 look at three parts of a record: its counters, whether it is in service, and its ramp
+  -- the rules look at three parts of a record: its counters, whether it is in service, and its ramp
   ruled-is : (b : Board) (h : History) (x : Slice) → b .counters ≡ map (countOf h) (rules e st) → inService (b .status) ≡ serving e st h → b .ramp ≡ min (st .ramp) (climbed e st h)
       → ruled e st x b ≡ recordOf e st (x ∷ h)
   unfolding ruled recordOf serving climbed

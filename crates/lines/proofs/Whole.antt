@@ -9,6 +9,7 @@ use Rattle.rules.specs.Refusals.{refusalNumber}
 use lib.IntN.{ℤ, pos}
 use lib.ListN.{drop}
 use Rattle.rules.specs.Text.{bytes, decimal, signedDecimal, digitsBefore}
+use Rattle.basics.proofs.Bools.{both}
 use Rattle.rules.specs.Transcripts.{bitDigits, spaced, spacedNumbers, reportNumbers, reportLine, refusedLine}
 use Rattle.rules.specs.declared.Report.{Report}
 use Rattle.rules.specs.declared.Refusal.{Refusal}
@@ -38,17 +39,12 @@ pub report-pieces : (r : Report) → reportLine r ≡ reportFront r ++ (spacedNu
 unfolding reportFront spacedNumbers
 report-pieces r = report-whole r ∙ simp append-assoc
 
-and-true : (a b : Bool) → (a && b) ≡ true → (a ≡ true) × (b ≡ true)
-and-true true true e = (refl, refl)
-and-true true false e = absurd (false≢true e)
-and-true false b e = absurd (false≢true e)
-
 -- the front of a steady report
 pub steady-front : (r : Report) → isSteady r ≡ true → reportFront r ≡ bytes "(report continuous 000000001 10000"
 unfolding reportFront reportHead spaced signedDecimal statusWord bitDigits decimal digitsBefore
 steady-front r t =
-    let status = and-true _ _ t in
-    let rest = and-true _ _ (status .1) in
+    let status = both _ _ t in
+    let rest = both _ _ (status .1) in
     rw (eqb-true (r .status) 2 (status .0), eqb-true (r .bits) 1 (rest .0), eqb-true (r .share) 10000 (rest .1))
 
 pub refused-pieces : (cause : Refusal) (line : ℕ)

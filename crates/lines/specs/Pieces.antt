@@ -1,4 +1,4 @@
--- The pieces of the lines of document 01, "Image and program", as they are written one after the other.
+-- The pieces of the lines of spec 10.4 and 10.5, as they are written one after the other.
 -- Assumes nothing.
 use mathlib.Core.Path.{_≡_}
 use mathlib.Core.Bool.{Bool, _&&_}

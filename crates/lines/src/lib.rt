@@ -1,4 +1,4 @@
-// Document 01, "Image and program": the lines that are written, each into a lent buffer.
+// Spec 10.4, 10.5: the lines that are written, each into a lent buffer.
 ghost use mathlib.Core.Path.{_≡_};
 ghost use Prim.Native.Nat.{_+_, _≤_};
 ghost use lib.ListN.{length};

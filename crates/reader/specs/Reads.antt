@@ -1,4 +1,4 @@
--- Document 01, "The sheet": what reading a sheet gives the host, against the rules' reading.
+-- Spec 3.7, 3.9: what reading a sheet gives the host, against the rules' reading.
 -- Assumes nothing.
 use mathlib.Core.Path.{_≡_}
 use mathlib.Core.List.{List}
@@ -8,7 +8,7 @@ use Rattle.rules.specs.Sheets.{readSheet}
 use Rattle.sheet.specs.Parts.{IsPart}
 use Rattle.reader.specs.declared.SheetRead.{SheetRead}
 
--- "hands back the refused line as a part of the caller's own bytes"; `IsPart` says which bytes, and at which place
+-- spec 3.9; `IsPart` says which bytes, and at which place
 pub record Reads (s : RefT (List ℕ)) (r : SheetRead) : Type 0 where
   pub check : r .check ≡ readSheet (now s) .check
   pub settings : r .settings ≡ readSheet (now s) .settings

@@ -1,4 +1,4 @@
-// The host's sheet reader: document 01, "The sheet" and "Turned-away input".
+// The host's sheet reader: spec 3.7 to 3.10.
 ghost use Rattle.reader.specs.Reads.{Reads};
 use rules::Settings;
 use rules::SettingsCheck;

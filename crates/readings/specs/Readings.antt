@@ -1,4 +1,4 @@
--- Document 01, "One sample": what the rules read from an accepted sample, and the nine rules on such a reading.
+-- Spec 4.1, 6.1 to 6.9: what the rules read from an accepted sample, and the nine rules on such a reading.
 -- Assumes nothing.
 use mathlib.Core.Path.{_≡_}
 use mathlib.Core.Bool.{Bool, true, false, cond}
@@ -37,7 +37,7 @@ enters r s =
     ∷ within (s .hertz .low) (s .hertz .high) (r .frequency)
     ∷ [])
 
--- rule 3 on a reading, by the Category III voltage regions
+-- spec 6.9 on a reading, by the Category III voltage regions
 abbrev pub regionAt : Reading → Region
 regionAt r = worse (voltageRegion (r .low)) (worse (voltageRegion (r .high)) (frequencyRegion (r .frequency)))
 

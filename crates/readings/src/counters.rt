@@ -1,4 +1,4 @@
-// Document 01, rules 1 and 2: the nine counters and their bits.
+// Spec 6.1 to 6.6: the nine counters and their bits.
 ghost use mathlib.Core.Path.{_≡_};
 ghost use mathlib.Core.Bool.{true, cond};
 ghost use mathlib.Core.List.{[]};
@@ -19,7 +19,7 @@ pub struct Counters {
     pub bits: u16,
 }
 
-// The enter-service criteria of rule 2.
+// The enter-service criteria (spec 6.4).
 pub fn in_range(r: Reading, s: Settings) -> bool
     ensures { λ b. ⌜ b ≡ enters r s ⌝ }
 {

@@ -1,4 +1,4 @@
-// What the rules read from a sample: document 01, "One sample", the checks of a slice and rules 1 to 3.
+// What the rules read from a sample: its checks (spec 4.2), the counters and the region (spec 6.1 to 6.9).
 pub mod counters;
 pub mod reading;
 pub mod regions;

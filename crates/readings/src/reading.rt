@@ -1,4 +1,4 @@
-// Document 01, "One sample" and "Sensing": the checks of a slice, and what the rules read from an accepted one.
+// Spec 2.5, 4.1, 4.2: the checks of a slice, and what the rules read from an accepted one.
 ghost use mathlib.Core.Path.{_≡_};
 ghost use mathlib.Core.Bool.{true};
 ghost use mathlib.Core.List.{[], _∷_};

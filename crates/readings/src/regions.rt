@@ -1,4 +1,4 @@
-// Document 01, rule 3: the operating region.
+// Spec 6.7 to 6.9: the operating region.
 ghost use mathlib.Core.Path.{_≡_};
 ghost use mathlib.Core.Bool.{true};
 ghost use Rattle.rules.specs.Regions.{voltageRegion, frequencyRegion, rank, worse};

@@ -1,4 +1,4 @@
--- Document 01, "Image and program": the parts of `respond`: each carries a state from one place of a block to another, and what is said from either is the same.
+-- Spec 10.13, the parts of `respond`: each carries a state from one place of a block to another, and what is said from either is the same.
 -- Assumes nothing.
 use mathlib.Core.Path.{_≡_}
 use mathlib.Core.Bool.{Bool, true, false}

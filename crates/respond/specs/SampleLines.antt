@@ -1,4 +1,4 @@
--- Document 01, "Image and program": one sample line of a block: its numbers, and what it makes of a board.
+-- Spec 10.2, 10.3: one sample line of a block: its numbers, and what it makes of a board.
 -- Assumes nothing.
 use mathlib.Core.Bool.{Bool, true, false, cond}
 use mathlib.Core.List.{List, map}

@@ -1,4 +1,4 @@
-// Document 01, "Image and program": the program's answer to a block of input.
+// Spec 10.13: the program's answer to a block of input.
 ghost use mathlib.Core.Path.{_≡_};
 ghost use mathlib.Core.Bool.{true, false};
 ghost use Prim.Native.Nat.{_-_, _≤_, min};

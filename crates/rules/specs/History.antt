@@ -1,4 +1,4 @@
--- Document 01, "Two histories": what a list of accepted samples gives. It looks at no record and at no step; that the record
+-- Spec 12.3, 12.4: what a list of accepted samples gives. It looks at no record and at no step; that the record
 -- gives the same is `demand2` of the crate `laws`.
 -- Assumes nothing.
 use mathlib.Core.Bool.{Bool, true, false, cond}
@@ -66,7 +66,7 @@ unfoldable pub historyVars : Equipment → Settings → History → ℤ
 historyVars e st [] = pos 0
 historyVars e st (x ∷ h) = varsOf e st x (historyStatus e st (x ∷ h))
 
--- "The report now": of the last accepted sample, or the fresh board's where there is none
+-- spec 12.4
 unfoldable pub historyReport : Equipment → Settings → History → Items
 historyReport e st h =
     record {

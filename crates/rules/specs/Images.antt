@@ -1,4 +1,4 @@
--- Document 01, "Image and program" and "Turned-away input" 9: the 45 bytes of a record, high byte first, and the saving.
+-- Spec 9: the 45 bytes of a record, high byte first, and the saving.
 -- Assumes nothing.
 use mathlib.Core.Bool.{cond}
 use mathlib.Core.List.{List, [], _∷_, _++_, map}
@@ -46,10 +46,10 @@ image b = fieldBytes (imageFields b)
 abbrev pub imageLength : ℕ
 imageLength = 45
 
--- "image buffer under 45 bytes" is refused with 9
+-- spec 9.4
 unfoldable pub saveCheck : List ℕ → Saved
 saveCheck buffer = cond (leb imageLength (length buffer)) Saved.Written (Saved.Refused Buffer)
 
--- the buffer after the saving: a refused one keeps every byte; "Bytes after it are untouched"
+-- spec 9.3, 9.4: the buffer after the saving
 unfoldable pub savedInto : Board → List ℕ → List ℕ
 savedInto b buffer = cond (leb imageLength (length buffer)) (image b ++ drop imageLength buffer) buffer

@@ -1,4 +1,4 @@
--- Document 01, "One sample" and "Turned-away input": the board record, how a lent one is read, and what a step makes of it.
+-- Spec 5, 6, 4.3: the board record, how a lent one is read, and what a step makes of it.
 -- Assumes nothing.
 use mathlib.Core.Bool.{Bool, cond}
 use mathlib.Core.List.{List, [], _∷_}
@@ -21,7 +21,7 @@ use Rattle.rules.specs.declared.SampleCheck.{SampleCheck}
 use Rattle.rules.specs.declared.Answer.{Answer}
 use Rattle.rules.specs.declared.Stepped.{Stepped}
 
--- "A fresh board is tripped with all counters, ramp, watts and vars 0"
+-- spec 5.3
 unfoldable pub fresh : Board
 fresh = record { status = 0; counters = replicate 9 0; ramp = 0; watts = 0; vars = pos 0 }
 
@@ -31,12 +31,11 @@ each f [] ns = []
 each f (r ∷ rs) [] = []
 each f (r ∷ rs) (n ∷ ns) = f r n ∷ each f rs ns
 
--- "a count above its top is read as the top"
+-- spec 5.4: a counter is read as its top at the most
 abbrev pub capped : Rule → ℕ → ℕ
 capped r n = min (r .top) n
 
--- "an unknown status as tripped, a tripped board's ramp count as 0, watts above 10000 as 10000"; the base rules look at its
--- counters, service and ramp alone
+-- spec 5.4, whole; the rules look at counters, service and ramp alone
 unfoldable pub readAs : Equipment → Settings → Board → Board
 readAs e st b =
     record {
@@ -47,7 +46,7 @@ readAs e st b =
       vars = b .vars;
     }
 
--- the record after rules 5 to 8, from: the nine counters, in service, the ramp count
+-- spec 6.13 to 7.6: the record, from: the nine counters, in service, the ramp count
 unfoldable pub settled : Equipment → Settings → Slice → List ℕ → Bool → ℕ → Board
 settled e st x counters on ramp =
     let status = statusOf on (regionOf e x) (eqb ramp (st .ramp)) in
@@ -59,7 +58,7 @@ settled e st x counters on ramp =
       vars = varsOf e st x status;
     }
 
--- rules 1 to 8: what an accepted sample makes of a record that is in order
+-- spec 6: what an accepted sample makes of a record that is in order
 unfoldable pub ruled : Equipment → Settings → Slice → Board → Board
 ruled e st x b =
     let counters = each (counted x) (rules e st) (b .counters) in
@@ -84,7 +83,7 @@ shown e st b =
       vars = b .vars;
     }
 
--- "A refused call yields its number .. and no report. All refusals change nothing."
+-- spec 11.3, 11.4: a refusal gives no report and changes nothing
 abbrev pub turnedAway : Board → Refusal → Stepped
 turnedAway b cause = record { board = b; answer = Answer.Refused cause }
 
@@ -97,6 +96,6 @@ abbrev pub onSettings : Equipment → Settings → Slice → Board → SettingsC
 onSettings e st x b (SettingsCheck.Refused cause line) = turnedAway b cause
 onSettings e st x b SettingsCheck.Accepted = onSample e st x b (sampleCheck x)
 
--- "Settings lent to a step are checked again for refusals 2 and 3, in sheet order, before the sample."
+-- spec 4.3: the settings first, then the sample
 unfoldable pub stepOf : Equipment → Board → Settings → Slice → Stepped
 stepOf e b st x = onSettings e st x b (settingsCheck st)

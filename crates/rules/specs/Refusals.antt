@@ -1,4 +1,4 @@
--- Document 01, "Turned-away input": the number of each cause.
+-- Spec 11.1: the number of each cause.
 -- Assumes nothing.
 use Prim.Native.Nat.{ℕ}
 use Rattle.rules.specs.declared.Refusal.{Refusal}

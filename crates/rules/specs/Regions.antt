@@ -1,4 +1,4 @@
--- Document 01, "One sample", rule 3: the operating regions of ride-through, which the paper calls bands.
+-- Spec 6.7 to 6.9: the operating regions of ride-through.
 -- Assumes nothing.
 use mathlib.Core.Bool.{Bool, true, false, cond}
 use mathlib.Core.List.{List}
@@ -11,7 +11,7 @@ use Rattle.rules.specs.Samples.{Slice, Equipment, frequency, lowest, hig
 use Rattle.rules.specs.declared.Region.{Region}
 use Rattle.rules.specs.declared.Region.the-variants.{Continuous, Mandatory, Momentary, Cease}
 
--- "above 12000 cease; 11001–12000 momentary; 8800–11000 continuous; 5000–8799 mandatory; below 5000 momentary"
+-- spec 6.7: Category III
 unfoldable pub voltageRegion : ℕ → Region
 voltageRegion v =
     cond (ltb 12000 v) Cease
@@ -20,11 +20,11 @@ voltageRegion v =
     (cond (leb 5000 v) Mandatory
     Momentary)))
 
--- "58800–61200 continuous, otherwise mandatory"
+-- spec 6.8
 unfoldable pub frequencyRegion : ℕ → Region
 frequencyRegion f = cond (within 58800 61200 f) Continuous Mandatory
 
--- "in the order continuous, mandatory, momentary, cease"
+-- spec 6.9: from good to bad
 abbrev pub rank : Region → ℕ
 rank Continuous = 0
 rank Mandatory = 1
@@ -34,7 +34,7 @@ rank Cease = 3
 abbrev pub worse : Region → Region → Region
 worse a b = cond (leb (rank b) (rank a)) a b
 
--- "The worst of lowest voltage, highest voltage and frequency holds"
+-- spec 6.9: the worst of the three
 unfoldable pub regionOf : Equipment → Slice → Region
 regionOf e x = worse (e .region (lowest e x)) (worse (e .region (highest e x)) (frequencyRegion (frequency x)))
 
@@ -44,7 +44,7 @@ isContinuous Mandatory = false
 isContinuous Momentary = false
 isContinuous Cease = false
 
--- the board of document 01: its own sensing table and the Category III voltage regions
+-- our board: the sensing of spec 2.2 and the voltage regions of spec 6.7
 abbrev pub ourEquipment : Equipment
 ourEquipment = record { sensing = voltage; region = voltageRegion }
 

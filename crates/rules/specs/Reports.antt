@@ -1,4 +1,4 @@
--- Document 01, "Image and program" and "Two histories": what a report holds.
+-- Spec 8: what a report holds.
 -- Assumes nothing.
 use mathlib.Core.Bool.{Bool, cond}
 use mathlib.Core.List.{List, [], _∷_}
@@ -6,7 +6,7 @@ use Prim.Native.Nat.{ℕ, _+_, _*_}
 use lib.IntN.{ℤ}
 use Rattle.rules.specs.declared.Report.{Report}
 
--- a report's items: status, nine bits (sheet order, then ready), share, watts, vars
+-- spec 8.1: a report's items
 pub record Items : Type 0 where
   pub status : ℕ
   pub bits : List Bool
@@ -14,7 +14,7 @@ pub record Items : Type 0 where
   pub watts : ℕ
   pub vars : ℤ
 
--- bits as one number, the first highest, put after the bits of n
+-- spec 8.3: bits as one number, the first highest, put after the bits of n
 abbrev pub packedAfter : ℕ → List Bool → ℕ
 packedAfter n [] = n
 packedAfter n (b ∷ bs) = packedAfter (2 * n + cond b 1 0) bs

@@ -1,4 +1,4 @@
--- Document 01, "One sample", "Sensing" and "Turned-away input": the seven numbers of a slice, refusals 8, 4, 5, 6 and 7 in
+-- Spec 2.5, 2.6, 4.1, 4.2: the seven numbers of a slice, refusals 8, 4, 5, 6 and 7 in
 -- their order, and the three voltages.
 -- Assumes nothing.
 use mathlib.Core.Bool.{Bool, true, false}
@@ -13,7 +13,7 @@ use Rattle.rules.specs.declared.Refusal.{Refusal}
 use Rattle.rules.specs.declared.Refusal.the-variants.{Code, Frequency, Permission, Power, Sample}
 use Rattle.rules.specs.declared.SampleCheck.{SampleCheck}
 
--- a sample as it is lent: three codes, frequency, permission, available power, operator's limit
+-- spec 4.1: a sample as it is lent
 abbrev pub Slice : Type 0
 Slice = List ℕ
 
@@ -37,7 +37,7 @@ operatorLimit x = getD x 6 0
 abbrev pub permitted : Slice → Bool
 permitted x = eqb (permission x) 1
 
--- the first cause found, in the order 8, 4, 5, 6, 7
+-- spec 4.2: the first cause found
 abbrev pub unless : Bool → Refusal → SampleCheck → SampleCheck
 unless true cause next = next
 unless false cause next = SampleCheck.Refused cause
@@ -61,7 +61,7 @@ sampleAccepted x = isAccepted (sampleCheck x)
 -- ---- what the board makes of the codes
 
 -- what a board is made with: the voltage of a code, and the operating region of a voltage. The rules are said for any, since
--- makers deliver sensing tables and machines are certified to other categories; document 01's is `ourEquipment`.
+-- makers deliver sensing tables and machines are certified to other categories; ours is `ourEquipment`.
 pub record Equipment : Type 0 where
   pub sensing : ℕ → ℕ
   pub region : ℕ → Region
@@ -70,13 +70,13 @@ pub record Equipment : Type 0 where
 abbrev pub phase : Equipment → Slice → ℕ → ℕ
 phase e x i = e .sensing (codeOf x i)
 
--- "The lowest and highest of the three voltages are used for limits and bands"
+-- spec 2.5
 abbrev pub lowest : Equipment → Slice → ℕ
 lowest e x = min (phase e x 0) (min (phase e x 1) (phase e x 2))
 
 abbrev pub highest : Equipment → Slice → ℕ
 highest e x = max (phase e x 0) (max (phase e x 1) (phase e x 2))
 
--- "the sum divided by 3, rounded down, for the curves": of the voltages, not of the codes
+-- spec 2.6: of the voltages, not of the codes
 abbrev pub mean : Equipment → Slice → ℕ
 mean e x = (phase e x 0 + phase e x 1 + phase e x 2) / 3

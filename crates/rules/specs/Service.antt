@@ -1,4 +1,4 @@
--- Document 01, "One sample", rules 4 to 6 and 8: trip and return, ramp, status, share, and the powers.
+-- Spec 6.10 to 6.14, 7.3 to 7.6: trip and return, ramp, status, share, and the powers.
 -- Assumes nothing.
 use mathlib.Core.Bool.{Bool, true, false, cond, not, _&&_}
 use mathlib.Core.List.{List, [], _∷_, map}
@@ -11,18 +11,18 @@ use Rattle.rules.specs.declared.Settings.{Settings}
 use Rattle.rules.specs.declared.Region.{Region}
 use Rattle.rules.specs.declared.Region.the-variants.{Continuous, Mandatory, Momentary, Cease}
 
--- Rule 4: in service after the step, from: in service before, permission, some limit's bit, ready.
+-- spec 6.10, 6.12: in service after the step, from: in service before, permission, some limit's bit, ready.
 abbrev pub serves : Bool → Bool → Bool → Bool → Bool
 serves true permit trip ready = permit && not trip
 serves false permit trip ready = ready
 
--- Rule 4: the ramp count after the step, from: in service before and after, the continuous region, the ramp length, the count before.
+-- spec 6.11, 6.12: the ramp count after the step, from: in service before and after, the continuous region, the ramp length, the count before.
 abbrev pub ramped : Bool → Bool → Bool → ℕ → ℕ → ℕ
 ramped was false continuous length n = 0
 ramped false true continuous length n = 0
 ramped true true continuous length n = cond continuous (min length (suc n)) n
 
--- Rule 5: the status, from: in service, the region, the ramp count full. Its numbers are the paper's.
+-- spec 6.13: the status, from: in service, the region, the ramp count full
 abbrev pub statusOf : Bool → Region → Bool → ℕ
 statusOf false region full = 0  -- tripped
 statusOf true Continuous false = 1  -- entering
@@ -31,19 +31,19 @@ statusOf true Mandatory full = 3  -- mandatory operation
 statusOf true Momentary full = 4  -- momentary cessation
 statusOf true Cease full = 5  -- cease to energize
 
--- in service; an unknown status is read as tripped
+-- in service; a status that spec 6.13 does not name is read as tripped (spec 5.4)
 abbrev pub inService : ℕ → Bool
 inService status = within 1 5 status
 
--- statuses 1 to 3 give power; tripped, in momentary cessation and where it ceases to energize there is none
+-- spec 7.6: statuses 1 to 3 give power; tripped, in momentary cessation and where it ceases to energize there is none
 abbrev pub exports : ℕ → Bool
 exports status = within 1 3 status
 
--- Rule 6: "10000 × ramp count ÷ ramp length, rounded down"
+-- spec 6.14
 abbrev pub shareOf : Settings → ℕ → ℕ
 shareOf st ramp = 10000 * ramp / st .ramp
 
--- Rule 8: "In statuses 1 to 3, vars are the var curve's .. In others both are 0."
+-- spec 7.3, 7.6: vars
 unfoldable pub varsOf : Equipment → Settings → Slice → ℕ → ℤ
 varsOf e st x status = cond (exports status) (curve (st .var) (mean e x)) (pos 0)
 

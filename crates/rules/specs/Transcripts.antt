@@ -1,4 +1,4 @@
--- Document 01, "Image and program" and "Turned-away input": what `board` writes for a whole input.
+-- Spec 10.3 to 10.9: what `board` writes for a whole input.
 -- Assumes nothing.
 use mathlib.Core.Bool.{cond}
 use mathlib.Core.List.{List, [], _∷_, _++_, map}
@@ -46,13 +46,13 @@ unfoldable pub spacedNumbers : List ℤ → List ℕ
 spacedNumbers [] = []
 spacedNumbers (z ∷ zs) = spaced z ++ spacedNumbers zs
 
--- status word, nine bits (sheet order, then ready), and the numbers
+-- spec 10.4
 unfoldable pub reportLine : Report → List ℕ
 reportLine r =
     bytes "(report " ++ (bytes (getD statusWords (r .status) "") ++ (bytes " " ++ (bitDigits 9 (r .bits)
     ++ (spacedNumbers (reportNumbers r) ++ bytes ")\n"))))
 
--- "After `refused` come the number and the input line, from 1."
+-- spec 10.5
 unfoldable pub refusedLine : Refusal → ℕ → List ℕ
 refusedLine cause line = bytes "(refused" ++ (spacedNumbers (pos (refusalNumber cause) ∷ pos line ∷ []) ++ bytes ")\n")
 
@@ -71,7 +71,7 @@ pub data Line : Type 0 where
   ended : List ℕ → Line
   unended : List ℕ → Line
 
--- what stands after the last line feed, if nothing, is no line
+-- spec 10.8: what stands after the last line feed, if nothing, is no line
 abbrev pub lastLine : List ℕ → List Line
 lastLine [] = []
 lastLine (b ∷ s) = unended (b ∷ s) ∷ []
@@ -86,7 +86,7 @@ linesIn s = linesAfter [] s
 
 -- ---- the samples
 
--- "sample line unended or not of its form" is refused with 8; a line of its form is a step
+-- a line of another form, or unended, is refused with 8 (spec 11.1); a line of its form is a step
 abbrev pub onSampleNumbers : Equipment → Settings → Board → Option (List ℤ) → Stepped
 onSampleNumbers e st b none = record { board = b; answer = Answer.Refused Sample }
 onSampleNumbers e st b (some ns) = stepOf e b st (map natAbs ns)
@@ -95,18 +95,18 @@ unfoldable pub lineStep : Equipment → Settings → Board → Line → Stepped
 lineStep e st b (ended s) = onSampleNumbers e st b (numbersOf sampleForm s)
 lineStep e st b (unended s) = record { board = b; answer = Answer.Refused Sample }
 
--- a line written for each line read; every line, good or bad, counts in the line number; "a refused sample is no step"
+-- spec 10.3, 10.5, 10.7: a line written for each line read; every line, good or bad, counts in the line number; a refusal is no step
 unfoldable pub answersFrom : Equipment → Settings → Board → ℕ → List Line → List ℕ
 answersFrom e st b n [] = []
 answersFrom e st b n (l ∷ ls) = answerLine n (lineStep e st b l .answer) ++ answersFrom e st (lineStep e st b l .board) (suc n) ls
 
 -- ---- the whole input
 
--- "Its input ends at byte 1,000,000,000,000 at the latest": what stands there is treated as an input that ends
+-- spec 10.9
 abbrev pub inputEnd : ℕ
 inputEnd = 1000000000000
 
--- "A refused sheet ends the program"; the samples begin at input line 14
+-- spec 10.6: a refused sheet ends all; the samples begin at input line 14
 abbrev pub onSheet : Equipment → SheetReading → SettingsCheck → List ℕ → List ℕ
 onSheet e r (SettingsCheck.Refused cause line) s = refusedLine cause line
 onSheet e r SettingsCheck.Accepted s = answersFrom e (r .settings) fresh 14 (linesIn (drop (r .start) s))

@@ -1,4 +1,4 @@
-// The declared types of the interface board. What they mean stands in specs/, in the order of document 01. Those that a C or Rust
+// The declared types of the interface board. What they mean stands in specs/, in the order of docs/SPECIFICATION.md. Those that a C or Rust
 // program lends are laid out as C lays them out.
 ghost use mathlib.Core.Path.{_≡_};
 ghost use Rattle.rules.specs.Refusals.{refusalNumber};
@@ -60,7 +60,7 @@ pub struct Report {
     pub vars: i16,
 }
 
-// The operating regions of ride-through, document 01's bands.
+// The operating regions of ride-through (spec 6.7).
 pub enum Region {
     Continuous,
     Mandatory,

@@ -1,4 +1,4 @@
--- Demand 1 for the exported functions: they refuse with the first cause in document 01's order, and leave what was lent to them as it was.
+-- Demand 1 for the exported functions: they refuse with the first cause in the order of spec 11.2, and leave what was lent to them as it was.
 -- Of `saltdelta_save`, whose contract has `saveCheck` and `savedInto` themselves, `save` and `save-keeps` of `RefusesRightly` say so.
 -- Assumes nothing.
 use mathlib.Core.Path.{_≡_, refl}

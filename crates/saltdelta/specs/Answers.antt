@@ -1,4 +1,4 @@
--- Document 01, "One sample" and "Image and program": what the calls of the C boundary answer and leave in lent memory, from the
+-- Spec 3.9, 5.2, 9, 11.3: what the calls of the C boundary answer and leave in lent memory, from the
 -- rules' step and the rules' reading of a sheet.
 -- Assumes nothing.
 use mathlib.Core.List.{List}
@@ -23,11 +23,11 @@ use Rattle.saltdelta.specs.declared.SheetAnswer.{SheetAnswer}
 unfoldable pub recordAfter : Board → Settings → Slice → Board
 recordAfter b s x = stepOf ourEquipment b s x .board
 
--- "A refused call yields its number": 0 where the step is not refused
+-- spec 11.3: 0 where the step is not refused
 unfoldable pub stepNumber : Board → Settings → Slice → ℕ
 stepNumber b s x = answerNumber (stepOf ourEquipment b s x .answer)
 
--- a report is stored; "and no report. All refusals change nothing."
+-- a report is stored; a refused call gives none and changes nothing (spec 11.4)
 abbrev pub reportOr : Report → Answer → Report
 reportOr before (Answer.Reported report) = report
 reportOr before (Answer.Refused cause) = before
@@ -51,7 +51,7 @@ sheetAnswer s =
       length = L.length (handedBack s);
     }
 
--- accepted settings are stored; "All refusals change nothing."
+-- accepted settings are stored (spec 11.4)
 abbrev pub settingsOr : Settings → SettingsCheck → Settings → Settings
 settingsOr before SettingsCheck.Accepted read = read
 settingsOr before (SettingsCheck.Refused cause line) read = before

@@ -1,5 +1,5 @@
-// The library for C and Rust: document 01's operations at a C boundary. include/saltdelta.h says what each number means and what a
-// caller owes. A refused call answers with document 01's number of its cause and stores nothing: it returns before any store.
+// The library for C and Rust: the operations at a C boundary. include/saltdelta.h says what each number means and what a
+// caller owes. A refused call answers with the number of its cause (spec 11.1) and stores nothing: it returns before any store.
 ghost use mathlib.Core.Path.{_≡_};
 ghost use Rattle.rules.specs.Refusals.{refusalNumber, savedNumber};
 ghost use Rattle.rules.specs.Records.{fresh};

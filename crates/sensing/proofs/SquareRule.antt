@@ -1,4 +1,4 @@
--- Document 01, "Sensing": a table whose entries pass the square rule, one computed test, has the voltage of each code.
+-- Spec 2.3: a table whose entries pass the square rule, one computed test, has the voltage of each code.
 -- Assumes nothing.
 use mathlib.Core.Path.{_≡_}
 use mathlib.Core.Bool.{Bool, _&&_}
@@ -10,7 +10,8 @@ use Rattle.rules.specs.Sensing.{voltage}
 use Rattle.roots.specs.Root.{IsRoot}
 use Rattle.roots.proofs.Roots.{root-one}
 use Rattle.roots.proofs.Voltages.{voltage-root}
-use Rattle.sensing.proofs.Places.{both-left, both-right, every, at}
+use Rattle.basics.proofs.Bools.{both-left, both-right}
+use Rattle.sensing.proofs.Places.{every, at}
 
 -- the square rule as a test of code k and entry v
 abbrev pub square-rule : ℕ → ℕ → Bool

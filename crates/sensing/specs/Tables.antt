@@ -1,4 +1,4 @@
--- Document 01, "Sensing": what makes a list of numbers the sensing table.
+-- Spec 2.3: what makes a list of numbers the sensing table.
 -- Assumes nothing.
 use mathlib.Core.Path.{_≡_}
 use mathlib.Core.List.{List}

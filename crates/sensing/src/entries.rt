@@ -1,4 +1,4 @@
-// The voltage of each mean-square code: the largest whole number whose square is at most code * 100,000.
+// The voltage of each mean-square code, in order (spec 2.2).
 pub(crate) const VOLTS: [u16; 4096] = [
     0,
     316,

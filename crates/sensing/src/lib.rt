@@ -1,4 +1,4 @@
-// Document 01, "Sensing": a mean-square code to a voltage, in ten-thousandths of nominal.
+// Spec 2: a mean-square code to a voltage.
 ghost use mathlib.Core.Path.{_≡_};
 ghost use Prim.Native.Nat.{_<_};
 ghost use lib.ListN.{getD};

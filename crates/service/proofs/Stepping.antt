@@ -46,7 +46,7 @@ kept32 z h = toZ-ofZ (fits32 z h)
 pub kept16 : (z : ℤ) → natAbs z ≤ 10000 → toZ w16 (ofZ w16 (toZ w32 (ofZ w32 z))) ≡ z
 kept16 z h = ap (λ (y : ℤ). toZ w16 (ofZ w16 y)) (kept32 z h) ∙ toZ-ofZ (fits16 z h)
 
--- ---- rule 8, on a reading
+-- ---- watts and vars, on a reading
 
 module _ (e : Equipment) (s : Settings) (x : Slice) (r : Reading) (q : readingOf e x ≡ r) (status : ℕ) (on : exports status ≡ true) where
   mean-is : r .sum / 3 ≡ mean e x
@@ -68,7 +68,7 @@ module _ (e : Equipment) (s : Settings) (x : Slice) (r : Reading) (q : readingOf
       let d : c ≡ wattCurve e s x = k ∙ ap (λ (n : ℕ). natAbs (curve (s .watt) n)) mean-is in
       rw on (m ∙ in-turn (r .available) (r .limit ∷ share ∷ c ∷ nameplate z ∷ []) ∙ rw (a, l, d, v))
 
--- ---- rules 1 and 2, on a reading and on the sample
+-- ---- the counters, on a reading and on the sample
 
 same-rules : (e : Equipment) (s : Settings) (x : Slice) (r : Reading) → readingOf e x ≡ r → SameRules x (rules e s) [] (rulesAt r s)
 same-rules e s x r q = subst (λ (y : Reading). SameRules x (rules e s) [] (rulesAt y s)) q read
@@ -106,7 +106,7 @@ full-last (q ∷ rs) r [] k h l = absurd (omega arith)
 full-last (q ∷ rs) r (n ∷ ns) zero h l = absurd (omega arith)
 full-last (q ∷ rs) r (n ∷ ns) (suc k) h l = ap (λ (bs : List Bool). full q n ∷ bs) (full-last rs r ns k (suc-inj h) (suc-inj l))
 
--- ---- rules 1 to 4
+-- ---- counters, trip, return and ramp
 
 pub ramp-top : (was on continuous : Bool) (length old : ℕ) → ramped was on continuous length (cond was (min length old) 0) ≤ length
 ramp-top was false continuous length old = omega arith

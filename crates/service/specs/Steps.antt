@@ -1,4 +1,4 @@
--- Document 01, "One sample": what a step makes of a record, as its parts promise it.
+-- Spec 6 to 8: what a step makes of a record, as its parts promise it.
 -- Assumes nothing.
 use mathlib.Core.Path.{_≡_}
 use mathlib.Core.List.{List}

@@ -1,4 +1,4 @@
-// The by-value step: document 01, "One sample". Its public operations are `fresh` and `step::step`; the rest is for the
+// The by-value step: spec 6 to 8. Its public operations are `fresh` and `step::step`; the rest is for the
 // crates above.
 pub mod powers;
 pub mod step;

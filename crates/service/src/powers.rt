@@ -1,4 +1,4 @@
-// Document 01, rule 8: watts and vars.
+// Spec 7.3 to 7.6: watts and vars.
 ghost use mathlib.Core.Path.{_≡_};
 ghost use Prim.Native.Nat.{_≤_};
 ghost use lib.IntN.{natAbs};

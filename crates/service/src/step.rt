@@ -1,4 +1,4 @@
-// Document 01, "One sample": the step, by value.
+// Spec 4.3, 6 to 8: the step, by value.
 ghost use mathlib.Core.Path.{_≡_};
 ghost use mathlib.Core.Bool.{Bool, true, cond};
 ghost use mathlib.Core.List.{List, [], _∷_, _++_};
@@ -53,7 +53,7 @@ fn in_service(status: u8) -> bool
     status <= 5
 }
 
-// Rule 4: in service after the step. The lowest of the nine bits is ready, the others are the limits'.
+// Spec 6.10, 6.12: in service after the step. The lowest of the nine bits is ready, the others are the limits'.
 fn in_service_after(was: bool, permit: bool, bits: u16) -> bool
     ensures { λ r. ⌜ ((trips : List Bool) (ready : Bool) → bits ≡ packedAfter 0 (trips ++ (ready ∷ [])) → r ≡ serves was permit (any trips) ready) ⌝ }
 {
@@ -77,7 +77,7 @@ fn is_continuous(region: Region) -> bool
     }
 }
 
-// Rule 4: the ramp count after the step; a count above its top is read as the top, a tripped board's as 0.
+// Spec 6.11: the ramp count after the step, from the count as lent (spec 5.4).
 fn ramp_after(was: bool, on: bool, continuous: bool, length: u32, old: u32) -> u32
     ensures { λ r. ⌜ r ≡ ramped was on continuous length (cond was (min length old) 0) ⌝ }
 {
@@ -93,7 +93,7 @@ fn ramp_after(was: bool, on: bool, continuous: bool, length: u32, old: u32) -> u
     if continuous { old + 1 } else { old }
 }
 
-// Rule 5.
+// Spec 6.13.
 fn status_of(on: bool, region: Region, full: bool) -> u8
     ensures { λ r. ⌜ r ≡ statusOf on region full ⌝ }
 {
@@ -113,7 +113,7 @@ fn status_of(on: bool, region: Region, full: bool) -> u8
     }
 }
 
-// Rule 6. No division where the ramp is full.
+// Spec 6.14. No division where the ramp is full.
 fn share(ramp: u32, length: u32) -> u32
     requires { ⌜ (ramp ≤ length) × (1 ≤ length) × (length ≤ 100000) ⌝ }
     ensures { λ r. ⌜ r ≡ 10000 * ramp / length ⌝ }
@@ -125,7 +125,7 @@ fn share(ramp: u32, length: u32) -> u32
     10000 * ramp / length
 }
 
-// Rules 5 to 8: the record and the report, from the counters, in service, the region and the ramp count.
+// Spec 6.13 to 8.1: the record and the report, from the counters, in service, the region and the ramp count.
 fn settle(s: Settings, r: Reading, c: Counters, on: bool, area: Region, ramp: u32) -> Stepped
     requires { ⌜ (Exportable r s) × (ramp ≤ s .ramp) ⌝ }
     ensures { λ t. ⌜ ((e : Equipment) (x : Slice) → readingOf e x ≡ r → regionOf e x ≡ area → Bits e s (c .n) (c .bits) → t ≡ reported e s (settled e s x (c .n) on ramp)) ⌝ }
@@ -155,7 +155,7 @@ fn settle(s: Settings, r: Reading, c: Counters, on: bool, area: Region, ramp: u3
     }
 }
 
-// Rules 1 to 8, on what is read from an accepted sample.
+// The rules, on what is read from an accepted sample.
 fn advance(b: Board, s: Settings, r: Reading) -> Stepped
     requires { ⌜ Exportable r s ⌝ }
     ensures { λ t. ⌜ ((e : Equipment) (x : Slice) → e .region ≡ voltageRegion → readingOf e x ≡ r → t ≡ reported e s (next e s x b)) ⌝ }

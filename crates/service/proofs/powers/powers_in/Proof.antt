@@ -13,7 +13,7 @@ use borrow.Author.Tests.{le-leb, lt-leb}
 use Rattle.rules.specs.Tests.{within}
 use Rattle.rules.specs.Curves.{nameplate}
 use Rattle.rules.specs.Service.{exports, varsOf, wattsOf}
-use Rattle.laws.proofs.Bools.{true-within}
+use Rattle.basics.proofs.Bools.{true-within}
 use Rattle.laws.proofs.Curves.{var-rises, watt-rises, watt-not-negatives}
 use Rattle.laws.proofs.Least.{inTurn, in-turn-low}
 use Rattle.service.proofs.Stepping.{kept32, vars-on, watts-on}
