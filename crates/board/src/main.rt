@@ -4,6 +4,7 @@ ghost use mathlib.Core.Path.{_≡_};
 ghost use mathlib.Core.Bool.{true, _&&_};
 ghost use Prim.Native.Nat.{_+_, _-_, _≤_, _<_};
 ghost use lib.ListN.{length, take, drop};
+ghost use Rattle.program.specs.Responses.{lineRoom, longest};
 use libc::STDIN_FILENO;
 use libc::STDOUT_FILENO;
 use program::State;
@@ -27,9 +28,9 @@ struct Answered {
 // The answers to a block's lines, written out each time that the buffer is full or the block is handled. A write that fails ends the
 // program.
 fn answer(q: State, block: &[u8], last: bool, out: &mut [u8]) -> Answered
-    requires { ⌜ 128 ≤ length (now out) ⌝ }
+    requires { ⌜ lineRoom ≤ length (now out) ⌝ }
     ensures { λ r. ⌜ r .at ≤ length (now (block .entry)) ⌝ }
-    ensures { λ r. ⌜ (r .going ≡ true → length (now (block .entry)) - r .at ≤ 128) ⌝ }
+    ensures { λ r. ⌜ (r .going ≡ true → length (now (block .entry)) - r .at ≤ longest) ⌝ }
 {
     let end = block.len();
     let mut state = q;
@@ -86,7 +87,7 @@ fn to_front(buf: &mut [u8], from: usize, end: usize) -> usize
 // Blocks of input until its end, or until all is done: no more than 10^12 bytes are read. No more than 128 bytes wait for their line
 // feed, so there is always room to read to.
 fn run(buf: &mut [u8], out: &mut [u8])
-    requires { ⌜ (128 < length (now buf)) × (128 ≤ length (now out)) ⌝ }
+    requires { ⌜ (longest < length (now buf)) × (lineRoom ≤ length (now out)) ⌝ }
 {
     let mut state = start();
     let mut have = 0;

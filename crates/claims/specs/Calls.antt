@@ -65,16 +65,16 @@ abbrev pub callAccepted : Call → Bool
 callAccepted c = settingsAccepted (c .settings) && sampleAccepted (c .slice)
 
 -- spec 12.3: the history, newest first, after one call more; a refused call adds nothing
-abbrev pub heardOne : History → Call → History
-heardOne h c = cond (callAccepted c) (c .slice ∷ h) h
+abbrev pub acceptedOne : History → Call → History
+acceptedOne h c = cond (callAccepted c) (c .slice ∷ h) h
 
-abbrev pub heardAfter : History → List Call → History
-heardAfter h [] = h
-heardAfter h (c ∷ cs) = heardAfter (heardOne h c) cs
+abbrev pub acceptedAfter : History → List Call → History
+acceptedAfter h [] = h
+acceptedAfter h (c ∷ cs) = acceptedAfter (acceptedOne h c) cs
 
 -- the accepted samples of a list of calls
-abbrev pub heard : List Call → History
-heard cs = heardAfter [] cs
+abbrev pub acceptedSamples : List Call → History
+acceptedSamples cs = acceptedAfter [] cs
 
 -- spec 12.2: the settings of the one sheet, or settings that are refused
 abbrev pub LendsUnder : Settings → Call → Type 0

@@ -18,7 +18,7 @@ use Rattle.rules.specs.declared.Settings.{Settings}
 use Rattle.rules.specs.declared.Board.{Board}
 use Rattle.rules.specs.declared.Answer.{Answer}
 use Rattle.rules.specs.declared.Region.the-variants.{Continuous}
-use Rattle.claims.specs.Calls.{Call, Program, called, runOf, callAccepted, heard, LendsUnder, Under}
+use Rattle.claims.specs.Calls.{Call, Program, called, runOf, callAccepted, acceptedSamples, LendsUnder, Under}
 use Rattle.claims.specs.Held.{Held, RanOut, WaitFull}
 use Rattle.claims.specs.FirstCause.{first, settingsCauses, sampleCauses}
 
@@ -53,21 +53,21 @@ pub record Next (st : Settings) (cs : List Call) (c : Call) : Type 0 where
 
 pub record TripAndReturn (e : Equipment) (p : Program) (st : Settings) : Type 0 where
   -- the last report is the one that the accepted samples alone give, or the fresh board's where there are none
-  pub shows : (cs : List Call) → Under st cs → runOf p cs .report ≡ reportOf (historyReport e st (heard cs))
+  pub shows : (cs : List Call) → Under st cs → runOf p cs .report ≡ reportOf (historyReport e st (acceptedSamples cs))
   -- an accepted sample is answered, with the report that the accepted samples alone give
   pub answers : (cs : List Call) (c : Call) → Next st cs c
-      → answerTo p cs c ≡ Answer.Reported (reportOf (historyReport e st (c .slice ∷ heard cs)))
+      → answerTo p cs c ≡ Answer.Reported (reportOf (historyReport e st (c .slice ∷ acceptedSamples cs)))
   -- a call is refused by the number of its first cause, and only then
   pub refuses : (cs : List Call) (c : Call) → Under st cs
       → answerNumber (answerTo p cs c) ≡ first (settingsCauses (c .settings) ++ sampleCauses (c .slice))
   -- the record is the one that they give
-  pub keeps : (cs : List Call) → Under st cs → runOf p cs .board ≡ recordOf e st (heard cs)
+  pub keeps : (cs : List Call) → Under st cs → runOf p cs .board ≡ recordOf e st (acceptedSamples cs)
   -- in service, it trips at a step exactly when permission is off or some limit has been broken for its whole clearing time, ending there
   pub trips : (cs : List Call) (c : Call) → Next st cs c → inService (statusBefore p cs) ≡ true
-      → (statusNow p cs c ≡ 0) ↔ ((permitted (c .slice) ≡ false) ⊎ RanOut e st (c .slice ∷ heard cs))
+      → (statusNow p cs c ≡ 0) ↔ ((permitted (c .slice) ≡ false) ⊎ RanOut e st (c .slice ∷ acceptedSamples cs))
   -- tripped, it returns exactly when its full wait has just been in range with permission on
   pub returns : (cs : List Call) (c : Call) → Next st cs c → statusBefore p cs ≡ 0
-      → (inService (statusNow p cs c) ≡ true) ↔ WaitFull e st (c .slice ∷ heard cs)
+      → (inService (statusNow p cs c) ≡ true) ↔ WaitFull e st (c .slice ∷ acceptedSamples cs)
   -- a return is always in the continuous operation region
   pub returns-continuous : (cs : List Call) (c : Call) → Next st cs c → statusBefore p cs ≡ 0 → inService (statusNow p cs c) ≡ true
       → regionOf e (c .slice) ≡ Continuous

@@ -13,7 +13,7 @@ use Rattle.rules.specs.History.{History, followedBy, historyReport}
 use Rattle.rules.specs.Images.{imageLength, savedInto}
 use Rattle.rules.specs.declared.Settings.{Settings}
 use Rattle.rules.specs.declared.Board.{Board}
-use Rattle.claims.specs.Calls.{Call, Program, runOf, heard, Under}
+use Rattle.claims.specs.Calls.{Call, Program, runOf, acceptedSamples, Under}
 
 abbrev pub AllAccepted : List Slice → Type 0
 AllAccepted [] = Unit {0}
@@ -35,7 +35,7 @@ abbrev pub TwoHistoriesBy : (Board → List ℕ → List ℕ) → (Settings → 
 TwoHistoriesBy saved report p st =
     (ps qs : List Call) → Under st ps → Under st qs
     → (a b : List ℕ) → imageLength ≤ length a → imageLength ≤ length b
-    → (take imageLength (saved (runOf p ps .board) a) ≡ take imageLength (saved (runOf p qs .board) b)) ↔ AgreeBy (report st) (heard ps) (heard qs)
+    → (take imageLength (saved (runOf p ps .board) a) ≡ take imageLength (saved (runOf p qs .board) b)) ↔ AgreeBy (report st) (acceptedSamples ps) (acceptedSamples qs)
 
 abbrev pub Demand3By : (Board → List ℕ → List ℕ) → (Settings → History → Items) → Program → Type 0
 Demand3By saved report p = (st : Settings) → settingsAccepted st ≡ true → TwoHistoriesBy saved report p st

@@ -1,4 +1,4 @@
--- The starred cases hold: antt computes both sides of every row from the definitions.
+-- The edge values hold: antt computes both sides of every row from the definitions.
 -- Assumes nothing.
 use mathlib.Core.Path.{refl}
 use Rattle.rules.specs.Tests.{all, within}
@@ -11,10 +11,9 @@ use Rattle.rules.specs.Text.{leadingDigits, afterDigits, valueAfter, wellFormed
 use Rattle.rules.specs.Forms.{sheetForms, numbersOf}
 use Rattle.rules.specs.Sheets.{settingsOf, readFrom, readSheet}
 use Rattle.rules.specs.Defaults.{defaultSheet, defaultSettings}
-use Rattle.demands.specs.Edges.{EdgesHold}
-use Rattle.demands.specs.Edges as edges
+use Rattle.demands.specs.Edges.{edges, EdgesHold}
 
 pub edges-hold : EdgesHold
-unfolding EdgesHold edges.rows all within rows inRow rising leadingDigits afterDigits valueAfter wellFormed takeNumber takeSigned firstLine hasFeed afterLine sheetForms numbersOf settingsOf readFrom readSheet defaultSheet defaultSettings largest voltage broken voltageRegion frequencyRegion regionOf curveFrom curve nameplate
+unfolding EdgesHold edges all within rows inRow rising leadingDigits afterDigits valueAfter wellFormed takeNumber takeSigned firstLine hasFeed afterLine sheetForms numbersOf settingsOf readFrom readSheet defaultSheet defaultSettings largest voltage broken voltageRegion frequencyRegion regionOf curveFrom curve nameplate
 edges-hold =
     (refl, (refl, (refl, (refl, (refl, (refl, (refl, (refl, (refl, (refl, (refl, (refl, (refl, (refl, (refl, (refl, (refl, (refl, (refl, tt)))))))))))))))))))

@@ -19,27 +19,27 @@ abbrev pub flat : ℕ → Slice
 flat code = code ∷ code ∷ code ∷ 60000 ∷ 1 ∷ 10000 ∷ 10000 ∷ []
 
 -- what a row says
-pub data Row : Type 0 where
-  gives : (code volts : ℕ) → Row
-  uv1Broken : (code : ℕ) → Bool → Row
-  ov2Broken : (code : ℕ) → Bool → Row
-  isIn : (code : ℕ) → Region → Row
-  varsAt : (volts : ℕ) → ℤ → Row
-  wattsAt : (volts : ℕ) → ℤ → Row
-  leaves : (vars : ℤ) → (watts : ℕ) → Row
+pub data Edge : Type 0 where
+  gives : (code volts : ℕ) → Edge
+  uv1Broken : (code : ℕ) → Bool → Edge
+  ov2Broken : (code : ℕ) → Bool → Edge
+  isIn : (code : ℕ) → Region → Edge
+  varsAt : (volts : ℕ) → ℤ → Edge
+  wattsAt : (volts : ℕ) → ℤ → Edge
+  nameplateLeaves : (vars : ℤ) → (watts : ℕ) → Edge
 
 -- a row holds, by the definitions
-abbrev pub Holds : Row → Type 0
+abbrev pub Holds : Edge → Type 0
 Holds (gives code volts) = voltage code ≡ volts
 Holds (uv1Broken code b) = broken ourEquipment undervoltage 8800 (flat code) ≡ b
 Holds (ov2Broken code b) = broken ourEquipment overvoltage 12000 (flat code) ≡ b
 Holds (isIn code region) = regionOf ourEquipment (flat code) ≡ region
 Holds (varsAt volts vars) = curve (defaultSettings .var) volts ≡ vars
 Holds (wattsAt volts watts) = curve (defaultSettings .watt) volts ≡ watts
-Holds (leaves vars watts) = nameplate vars ≡ watts
+Holds (nameplateLeaves vars watts) = nameplate vars ≡ watts
 
-unfoldable pub rows : List Row
-rows =
+unfoldable pub edges : List Edge
+edges =
     gives 0 0
     ∷ gives 1 316
     ∷ gives 774 8797
@@ -56,15 +56,15 @@ rows =
     ∷ varsAt 9201 (pos 4393)
     ∷ varsAt 10201 (negℤ (pos 7))
     ∷ wattsAt 10800 (pos 6000)
-    ∷ leaves (pos 4400) 8979
-    ∷ leaves (pos 10000) 0
-    ∷ leaves (negℤ (pos 10000)) 0
+    ∷ nameplateLeaves (pos 4400) 8979
+    ∷ nameplateLeaves (pos 10000) 0
+    ∷ nameplateLeaves (negℤ (pos 10000)) 0
     ∷ []
 
-abbrev pub AllHold : List Row → Type 0
+abbrev pub AllHold : List Edge → Type 0
 AllHold [] = Unit {0}
 AllHold (r ∷ rs) = Holds r × AllHold rs
 
 -- the one statement that covers the rows
 unfoldable pub EdgesHold : Type 0
-EdgesHold = AllHold rows
+EdgesHold = AllHold edges

@@ -26,14 +26,14 @@ use Rattle.rules.specs.declared.SettingsCheck.{SettingsCheck}
 use Rattle.rules.specs.declared.SampleCheck.{SampleCheck}
 use Rattle.rules.specs.declared.Answer.{Answer}
 use Rattle.rules.specs.declared.Stepped.{Stepped}
-use Rattle.claims.specs.Calls.{Call, Run, ruledBy, freshReport, lastReport, called, calledAll, runOf, callAccepted, heardOne, heardAfter, heard, LendsUnder, Under}
+use Rattle.claims.specs.Calls.{Call, Run, ruledBy, freshReport, lastReport, called, calledAll, runOf, callAccepted, acceptedOne, acceptedAfter, acceptedSamples, LendsUnder, Under}
 use Rattle.claims.specs.Sound.{Sound}
 use Rattle.claims.specs.TripAndReturn.{recordOf, Next, TripAndReturn, CounterRule, Demand2}
 use Rattle.basics.proofs.Bools.{both}
 use Rattle.laws.proofs.Limits.{LimitsIn, limits-in}
 use Rattle.laws.proofs.Trace.{service-is, status-is, next-is, shown-is}
 use Rattle.laws.proofs.Counting.{counted-is, full-is}
-use Rattle.laws.proofs.Trip.{complete-held, trip-law, return-law, return-even}
+use Rattle.laws.proofs.Trip.{complete-held, trip-law, return-law, return-continuous}
 use Rattle.laws.proofs.FirstCause.{step-number}
 
 -- ---- one call
@@ -87,7 +87,7 @@ module _ (e : Equipment) (st : Settings) where
   abbrev after : Run → Stepped → Run
   after r t = record { board = t .board; report = lastReport (r .report) (t .answer) }
 
-  call-is : (h : History) (c : Call) → LendsUnder st c → called (ruledBy e) (at h) c ≡ at (heardOne h c)
+  call-is : (h : History) (c : Call) → LendsUnder st c → called (ruledBy e) (at h) c ≡ at (acceptedOne h c)
   call-is h c l = by (callAccepted c) refl
     where
       stepped : c .settings ≡ st → settingsAccepted (c .settings) ≡ true → sampleAccepted (c .slice) ≡ true
@@ -106,9 +106,9 @@ module _ (e : Equipment) (st : Settings) where
           let r = refused-step e (recordOf e st h) (c .settings) (c .slice) p in
           ap (after (at h)) (r .1)
 
-  pub calls-are : (cs : List Call) (h : History) → Under st cs → calledAll (ruledBy e) (at h) cs ≡ at (heardAfter h cs)
+  pub calls-are : (cs : List Call) (h : History) → Under st cs → calledAll (ruledBy e) (at h) cs ≡ at (acceptedAfter h cs)
   calls-are [] h u = refl
-  calls-are (c ∷ cs) h u = ap (λ (r : Run). calledAll (ruledBy e) r cs) (call-is h c (u .0)) ∙ calls-are cs (heardOne h c) (u .1)
+  calls-are (c ∷ cs) h u = ap (λ (r : Run). calledAll (ruledBy e) r cs) (call-is h c (u .0)) ∙ calls-are cs (acceptedOne h c) (u .1)
 
   -- ---- the statuses of a history
 
@@ -138,24 +138,24 @@ module _ (e : Equipment) (st : Settings) where
         no-share : 10000 * min (st .ramp) 0 / st .ramp ≡ 0
         no-share = rw (min-zero (st .ramp), zero-div (st .ramp))
 
-    pub run-is : (cs : List Call) → Under st cs → runOf (ruledBy e) cs ≡ at (heard cs)
+    pub run-is : (cs : List Call) → Under st cs → runOf (ruledBy e) cs ≡ at (acceptedSamples cs)
     unfolding recordOf
     run-is cs u =
         ap (λ (r : Report). calledAll (ruledBy e) (record { board = fresh; report = r }) cs) (sym fresh-is)
         ∙ calls-are cs [] u
 
-    run-next : (cs : List Call) (c : Call) → Next st cs c → called (ruledBy e) (runOf (ruledBy e) cs) c ≡ at (c .slice ∷ heard cs)
+    run-next : (cs : List Call) (c : Call) → Next st cs c → called (ruledBy e) (runOf (ruledBy e) cs) c ≡ at (c .slice ∷ acceptedSamples cs)
     run-next cs c n =
-        ap (λ (r : Run). called (ruledBy e) r c) (run-is cs (n .under)) ∙ call-is (heard cs) c (n .lends)
-        ∙ ap (λ (t : Bool). at (cond t (c .slice ∷ heard cs) (heard cs))) (n .accepted)
+        ap (λ (r : Run). called (ruledBy e) r c) (run-is cs (n .under)) ∙ call-is (acceptedSamples cs) c (n .lends)
+        ∙ ap (λ (t : Bool). at (cond t (c .slice ∷ acceptedSamples cs) (acceptedSamples cs))) (n .accepted)
 
     -- ---- the five claims
 
-    statuses-before : (cs : List Call) → Under st cs → runOf (ruledBy e) cs .report .status ≡ historyStatus e st (heard cs)
+    statuses-before : (cs : List Call) → Under st cs → runOf (ruledBy e) cs .report .status ≡ historyStatus e st (acceptedSamples cs)
     unfolding reportOf historyReport
     statuses-before cs u = ap (λ (r : Run). r .report .status) (run-is cs u)
 
-    statuses-now : (cs : List Call) (c : Call) → Next st cs c → called (ruledBy e) (runOf (ruledBy e) cs) c .report .status ≡ historyStatus e st (c .slice ∷ heard cs)
+    statuses-now : (cs : List Call) (c : Call) → Next st cs c → called (ruledBy e) (runOf (ruledBy e) cs) c .report .status ≡ historyStatus e st (c .slice ∷ acceptedSamples cs)
     unfolding reportOf historyReport
     statuses-now cs c n = ap (λ (r : Run). r .report .status) (run-next cs c n)
 
@@ -174,20 +174,20 @@ module _ (e : Equipment) (st : Settings) where
     claims-hold sound =
         record {
           shows = λ cs u. ap (λ (r : Run). r .report) (run-is cs u);
-          answers = λ cs c n. ap (λ (r : Run). stepOf e (r .board) (c .settings) (c .slice) .answer) (run-is cs (n .under)) ∙ answer-is (heard cs) c (n .lends) (n .accepted);
+          answers = λ cs c n. ap (λ (r : Run). stepOf e (r .board) (c .settings) (c .slice) .answer) (run-is cs (n .under)) ∙ answer-is (acceptedSamples cs) c (n .lends) (n .accepted);
           refuses = λ cs c u. step-number e (runOf (ruledBy e) cs .board) (c .settings) (c .slice);
           keeps = λ cs u. ap (λ (r : Run). r .board) (run-is cs u);
           trips = λ cs c n p.
-              let h = heard cs in
+              let h = acceptedSamples cs in
               let l = trip-law e st h (c .slice) (sym (service-of h) ∙ ap inService (sym (statuses-before cs (n .under))) ∙ p) in
               ((λ q. l .0 (tripped-of (c .slice ∷ h) (sym (statuses-now cs c n) ∙ q))), (λ q. statuses-now cs c n ∙ tripped-status (c .slice ∷ h) (l .1 q)));
           returns = λ cs c n p.
-              let h = heard cs in
+              let h = acceptedSamples cs in
               let l = return-law e st h (c .slice) (tripped-of h (sym (statuses-before cs (n .under)) ∙ p)) in
               ((λ q. l .0 (sym (service-of (c .slice ∷ h)) ∙ ap inService (sym (statuses-now cs c n)) ∙ q)), (λ q. ap inService (statuses-now cs c n) ∙ service-of (c .slice ∷ h) ∙ l .1 q));
           returns-continuous = λ cs c n p q.
-              let h = heard cs in
-              return-even e st sound ok h (c .slice) (tripped-of h (sym (statuses-before cs (n .under)) ∙ p)) (sym (service-of (c .slice ∷ h)) ∙ ap inService (sym (statuses-now cs c n)) ∙ q);
+              let h = acceptedSamples cs in
+              return-continuous e st sound ok h (c .slice) (tripped-of h (sym (statuses-before cs (n .under)) ∙ p)) (sym (service-of (c .slice ∷ h)) ∙ ap inService (sym (statuses-now cs c n)) ∙ q);
         }
 
 -- the counter rule, for an arbitrary rule

@@ -26,7 +26,7 @@ use Rattle.rules.specs.declared.Settings.{Settings}
 use Rattle.rules.specs.declared.Board.{Board}
 use Rattle.rules.specs.declared.Region.{Region}
 use Rattle.rules.specs.declared.Region.the-variants.{Continuous, Mandatory, Momentary, Cease}
-use Rattle.claims.specs.Calls.{Call, Run, ruledBy, runOf, callAccepted, heardOne, heardAfter, heard, Under}
+use Rattle.claims.specs.Calls.{Call, Run, ruledBy, runOf, callAccepted, acceptedOne, acceptedAfter, acceptedSamples, Under}
 use Rattle.claims.specs.Sound.{Sound}
 use Rattle.claims.specs.TripAndReturn.{countOf, recordOf}
 use Rattle.claims.specs.TwoHistories.{AllAccepted, Agree, TwoHistoriesBy, Demand3}
@@ -38,15 +38,15 @@ use Rattle.laws.proofs.Curves.{fits16, var-rises}
 use Rattle.laws.proofs.Least.{least-below}
 use Rattle.laws.proofs.Trace.{counters-are, service-is, ramp-is, status-is, watts-is, vars-is, next-is, shown-is}
 use Rattle.laws.proofs.Demand2.{run-is}
-use Rattle.laws.proofs.Probes.{AllTellable, all-rules, rules-told}
-use Rattle.laws.proofs.Ramps.{ramps-told}
+use Rattle.laws.proofs.Probes.{AllTellable, all-rules, rules-tellable}
+use Rattle.laws.proofs.Ramps.{ramps-equal}
 use Rattle.laws.proofs.Images.{AllFit, each-fit, FieldsFit, image-length, complement-below, same-fields, image-inj}
 
 -- ---- every sample of a history that calls give was accepted
 
-heard-accepted : (cs : List Call) (h : History) → AllAccepted h → AllAccepted (heardAfter h cs)
-heard-accepted [] h a = a
-heard-accepted (c ∷ cs) h a = heard-accepted cs (heardOne h c) (by (callAccepted c) refl)
+samples-accepted : (cs : List Call) (h : History) → AllAccepted h → AllAccepted (acceptedAfter h cs)
+samples-accepted [] h a = a
+samples-accepted (c ∷ cs) h a = samples-accepted cs (acceptedOne h c) (by (callAccepted c) refl)
   where
     by : (b : Bool) → callAccepted c ≡ b → AllAccepted (cond b (c .slice ∷ h) h)
     by true e = (both (settingsAccepted (c .settings)) (sampleAccepted (c .slice)) e .1, a)
@@ -97,7 +97,7 @@ module _ (e : Equipment) (sound : Sound e) (st : Settings) (ok : settingsAccepte
   record-fits : (h : History) → AllAccepted h → FieldsFit (recordOf e st h)
   unfolding imageFields rows
   record-fits h a =
-      let counts = subst (λ (ns : List ℕ). AllFit (map (field 4) ns)) (sym (counters-are e st h)) (counts-fit h (rules e st) (rules-told e sound st ok)) in
+      let counts = subst (λ (ns : List ℕ). AllFit (map (field 4) ns)) (sym (counters-are e st h)) (counts-fit h (rules e st) (rules-tellable e sound st ok)) in
       let vars = subst (SFits w16) (sym (vars-is e st h)) (vars-fit h) in
       let status : recordOf e st h .status < 256 ^ 1 = omega (arith, status-is e st h, status-below h) in
       let ramp : recordOf e st h .ramp < 256 ^ 4 = omega (arith, ramp-is e st h, sheet-rows st ok .wait) in
@@ -110,17 +110,17 @@ module _ (e : Equipment) (sound : Sound e) (st : Settings) (ok : settingsAccepte
 
   -- ---- equal reports, now and after every common run: equal records
 
-  records-told : (h g : History) → AllAccepted h → AllAccepted g → Agree e st h g → recordOf e st h ≡ recordOf e st g
+  records-equal : (h g : History) → AllAccepted h → AllAccepted g → Agree e st h g → recordOf e st h ≡ recordOf e st g
   unfolding historyReport
-  records-told h g ha ga f =
+  records-equal h g ha ga f =
       let now : historyReport e st h ≡ historyReport e st g = f [] zero-le tt in
       let s : recordOf e st h .status ≡ recordOf e st g .status = status-is e st h ∙ ap (λ (r : Items). r .status) now ∙ sym (status-is e st g) in
       let o : serving e st h ≡ serving e st g = sym (service-is e st h) ∙ ap inService s ∙ service-is e st g in
       same-fields s
       (counters-are e st h
-      ∙ all-rules h g ha ga (rules e st) (rules-told e sound st ok) (λ run l a. ap (λ (r : Items). r .bits) (f run l a))
+      ∙ all-rules h g ha ga (rules e st) (rules-tellable e sound st ok) (λ run l a. ap (λ (r : Items). r .bits) (f run l a))
       ∙ sym (counters-are e st g))
-      (ramp-is e st h ∙ ramps-told e sound st ok h g o f ∙ sym (ramp-is e st g))
+      (ramp-is e st h ∙ ramps-equal e sound st ok h g o f ∙ sym (ramp-is e st g))
       (watts-is e st h ∙ ap (λ (r : Items). r .watts) now ∙ sym (watts-is e st g))
       (vars-is e st h ∙ ap (λ (r : Items). r .vars) now ∙ sym (vars-is e st g))
 
@@ -143,21 +143,21 @@ module _ (e : Equipment) (sound : Sound e) (st : Settings) (ok : settingsAccepte
   -- ---- the image saved after a list of calls
 
   saved-is : (cs : List Call) → Under st cs → (buffer : List ℕ) → imageLength ≤ length buffer
-      → take imageLength (savedInto (runOf (ruledBy e) cs .board) buffer) ≡ image (recordOf e st (heard cs))
+      → take imageLength (savedInto (runOf (ruledBy e) cs .board) buffer) ≡ image (recordOf e st (acceptedSamples cs))
   unfolding savedInto
   saved-is cs u buffer room =
       rw (le-leb imageLength (length buffer) room, ap (λ (r : Run). r .board) (run-is e st ok cs u))
-      (take-at (image (recordOf e st (heard cs))) (drop imageLength buffer) imageLength long)
+      (take-at (image (recordOf e st (acceptedSamples cs))) (drop imageLength buffer) imageLength long)
     where
-      long : length (image (recordOf e st (heard cs))) ≡ imageLength
-      long = image-length (recordOf e st (heard cs)) (ap length (counters-are e st (heard cs)))
+      long : length (image (recordOf e st (acceptedSamples cs))) ≡ imageLength
+      long = image-length (recordOf e st (acceptedSamples cs)) (ap length (counters-are e st (acceptedSamples cs)))
 
   two-histories : TwoHistoriesBy savedInto (historyReport e) (ruledBy e) st
   two-histories ps qs up uq a b ra rb =
-      let fp = record-fits (heard ps) (heard-accepted ps [] tt) in
-      let fq = record-fits (heard qs) (heard-accepted qs [] tt) in (
-        (λ p. records-agree (heard ps) (heard qs) (image-inj _ _ fp fq (sym (saved-is ps up a ra) ∙ p ∙ saved-is qs uq b rb))),
-        (λ f. saved-is ps up a ra ∙ ap image (records-told (heard ps) (heard qs) (heard-accepted ps [] tt) (heard-accepted qs [] tt) f) ∙ sym (saved-is qs uq b rb)),
+      let fp = record-fits (acceptedSamples ps) (samples-accepted ps [] tt) in
+      let fq = record-fits (acceptedSamples qs) (samples-accepted qs [] tt) in (
+        (λ p. records-agree (acceptedSamples ps) (acceptedSamples qs) (image-inj _ _ fp fq (sym (saved-is ps up a ra) ∙ p ∙ saved-is qs uq b rb))),
+        (λ f. saved-is ps up a ra ∙ ap image (records-equal (acceptedSamples ps) (acceptedSamples qs) (samples-accepted ps [] tt) (samples-accepted qs [] tt) f) ∙ sym (saved-is qs uq b rb)),
       )
 
 pub demand3 : (e : Equipment) → Sound e → Demand3 e (ruledBy e)

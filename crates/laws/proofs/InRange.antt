@@ -61,11 +61,11 @@ module _ (s : Settings) (ok : settingsAccepted s ≡ true) (permit : Bool) (low 
   pub continuous-in : (region : ℕ → Region) → ((v : ℕ) → 8800 ≤ v → v ≤ 11000 → region v ≡ Continuous)
       → worse (region low) (worse (region high) (frequencyRegion frequency)) ≡ Continuous
   unfolding rows frequencyRegion
-  continuous-in region even =
+  continuous-in region continues =
       let volts = sheet-rows s ok .volts in
       let hertz = sheet-rows s ok .hertz in
       rw (
-        even low (omega (arith, volts, lowest-in)) (omega (arith, volts, lowest-in)),
-        even high (omega (arith, volts, highest-in)) (omega (arith, volts, highest-in)),
+        continues low (omega (arith, volts, lowest-in)) (omega (arith, volts, lowest-in)),
+        continues high (omega (arith, volts, highest-in)) (omega (arith, volts, highest-in)),
         true-within 58800 61200 frequency (omega (arith, hertz, frequency-in)) (omega (arith, hertz, frequency-in)),
       )

@@ -5,7 +5,7 @@ pub mod Counting
 pub mod Trace
 pub mod Trip
 pub mod Demand2
-pub mod Told
+pub mod Saturating
 pub mod Probes
 pub mod Ramps
 pub mod Images

@@ -22,7 +22,7 @@ use Rattle.claims.specs.TwoHistories.{AllAccepted}
 use Rattle.basics.proofs.Bools.{true-within}
 use Rattle.laws.proofs.Accepted.{sample-right, sheet-rows}
 use Rattle.laws.proofs.Limits.{LevelIn, LimitsIn, limits-in}
-use Rattle.laws.proofs.Told.{told, carry, streak-run}
+use Rattle.laws.proofs.Saturating.{same-count, carry, streak-run}
 
 -- what can be told: the top is within reach, and either an accepted sample counts or none does
 pub record Tellable (r : Rule) : Type 0 where
@@ -60,7 +60,7 @@ module _ (h g : History) (ha : AllAccepted h) (ga : AllAccepted g) where
 
       some : (x : Slice) × (sampleAccepted x ≡ true) × (r .counts x ≡ true) → countOf h r ≡ countOf g r
       some s =
-          told (r .top) (streak (r .counts) h) (streak (r .counts) g) 100000 (t .reach)
+          same-count (r .top) (streak (r .counts) h) (streak (r .counts) g) 100000 (t .reach)
           (λ k l. carry _ _ _ (at (s .0) (s .1) (s .2) k l))
           (λ k l. carry _ _ _ (sym (at (s .0) (s .1) (s .2) k l)))
 
@@ -91,9 +91,9 @@ flat-accepted c f a b d = rw (le-leb c 4095 a, true-within 40000 80000 f b d)
 
 module _ (e : Equipment) (sound : Sound e) where
   -- a limit is told: broken by some accepted sample, or, for a low voltage that the table never gives, by none
-  limit-told : (k : Kind) (n c : ℕ) → LevelIn k n → c ≤ 100000 → Tellable (record { counts = broken e k n; top = c })
+  limit-tellable : (k : Kind) (n c : ℕ) → LevelIn k n → c ≤ 100000 → Tellable (record { counts = broken e k n; top = c })
   unfolding broken
-  limit-told undervoltage n c i l = record { reach = l; probe = by (ltb (e .sensing 0) n) refl }
+  limit-tellable undervoltage n c i l = record { reach = l; probe = by (ltb (e .sensing 0) n) refl }
     where
       by : (b : Bool) → ltb (e .sensing 0) n ≡ b
           → ((x : Slice) × (sampleAccepted x ≡ true) × (ltb (lowest e x) n ≡ true)) ⊎ ((x : Slice) → sampleAccepted x ≡ true → ltb (lowest e x) n ≡ false)
@@ -101,17 +101,17 @@ module _ (e : Equipment) (sound : Sound e) where
       by false t =
           inr
           (λ x a. let s = sample-right x a in le-ltb (lowest e x) n (omega (arith, ltb-false (e .sensing 0) n t, sound .least _ (s .code0), sound .least _ (s .code1), sound .least _ (s .code2))))
-  limit-told overvoltage n c i l =
+  limit-tellable overvoltage n c i l =
       record { reach = l; probe = inl (flat lastCode 60000, flat-accepted lastCode 60000 (omega arith) (omega arith) (omega arith), lt-ltb n (highest e (flat lastCode 60000)) (omega (arith, sound .above))) }
-  limit-told underfrequency n c i l =
+  limit-tellable underfrequency n c i l =
       record { reach = l; probe = inl (flat 0 40000, flat-accepted 0 40000 (omega arith) (omega arith) (omega arith), lt-ltb 40000 n (omega arith)) }
-  limit-told overfrequency n c i l =
+  limit-tellable overfrequency n c i l =
       record { reach = l; probe = inl (flat 0 80000, flat-accepted 0 80000 (omega arith) (omega arith) (omega arith), lt-ltb n 80000 (omega arith)) }
 
-  limits-told : (st : Settings) (i : ℕ) (ks : List Kind) → LimitsIn st i ks → (rs : List Rule) → AllTellable rs → AllTellable (limitRules e st i ks ++ rs)
-  limits-told st i [] l rs t = t
-  limits-told st i (k ∷ ks) l rs t =
-      (limit-told k (limitAt st i .level) (limitAt st i .clearing) (l .0 .level-in) (l .0 .clearing-high), limits-told st (suc i) ks (l .1) rs t)
+  limits-tellable : (st : Settings) (i : ℕ) (ks : List Kind) → LimitsIn st i ks → (rs : List Rule) → AllTellable rs → AllTellable (limitRules e st i ks ++ rs)
+  limits-tellable st i [] l rs t = t
+  limits-tellable st i (k ∷ ks) l rs t =
+      (limit-tellable k (limitAt st i .level) (limitAt st i .clearing) (l .0 .level-in) (l .0 .clearing-high), limits-tellable st (suc i) ks (l .1) rs t)
 
   -- a sample at nominal: in range with permission on, in the continuous region, and breaking no limit
   abbrev pub calm : Slice
@@ -138,11 +138,11 @@ module _ (e : Equipment) (sound : Sound e) where
           true-within (st .hertz .low) (st .hertz .high) 60000 (omega arith) (omega arith),
         )
 
-    ready-told : Tellable (readyRule e st)
+    ready-tellable : Tellable (readyRule e st)
     unfolding rows
-    ready-told =
+    ready-tellable =
         let k = sheet-rows st ok in
         record { reach = omega arith; probe = inl (calm, calm-accepted, calm-in-range) }
 
-    pub rules-told : AllTellable (rules e st)
-    rules-told = limits-told st 0 kinds (limits-in st ok) (readyRule e st ∷ []) (ready-told, tt)
+    pub rules-tellable : AllTellable (rules e st)
+    rules-tellable = limits-tellable st 0 kinds (limits-in st ok) (readyRule e st ∷ []) (ready-tellable, tt)

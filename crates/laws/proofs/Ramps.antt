@@ -21,9 +21,9 @@ use Rattle.claims.specs.Sound.{Sound}
 use Rattle.claims.specs.TwoHistories.{Agree}
 use Rattle.laws.proofs.Accepted.{sheet-rows}
 use Rattle.laws.proofs.Limits.{LimitsIn, limits-in}
-use Rattle.laws.proofs.Told.{told}
+use Rattle.laws.proofs.Saturating.{same-count}
 use Rattle.laws.proofs.Trace.{tripped-climbed}
-use Rattle.laws.proofs.Trip.{in-range-even}
+use Rattle.laws.proofs.Trip.{in-range-continuous}
 use Rattle.laws.proofs.Probes.{accepted-run, calm, calm-accepted, calm-breaks-none, calm-in-range}
 
 -- the share is 10000 exactly when the ramp is full
@@ -39,7 +39,7 @@ module _ (e : Equipment) (sound : Sound e) (st : Settings) (ok : settingsAccepte
   -- ---- a run at nominal keeps a board in service, and each of its samples counts for the ramp
 
   calm-region : isContinuous (regionOf e (calm e sound)) ≡ true
-  calm-region = ap isContinuous (in-range-even e st sound ok (calm e sound) (calm-in-range e sound st ok))
+  calm-region = ap isContinuous (in-range-continuous e st sound ok (calm e sound) (calm-in-range e sound st ok))
 
   calm-trips-none : (h : History) (i : ℕ) (ks : List Kind) → LimitsIn st i ks → any (map (complete (calm e sound ∷ h)) (limitRules e st i ks)) ≡ false
   unfolding any streak
@@ -61,9 +61,9 @@ module _ (e : Equipment) (sound : Sound e) (st : Settings) (ok : settingsAccepte
   climb-run (suc n) h p =
       climb-run n (calm e sound ∷ h) (calm-serves h p) ∙ ap (λ (m : ℕ). n + m) (calm-climbs h p) ∙ add-suc n (climbed e st h) ∙ sym (suc-add n (climbed e st h))
 
-  pub ramps-told : (h g : History) → serving e st h ≡ serving e st g → Agree e st h g → min (st .ramp) (climbed e st h) ≡ min (st .ramp) (climbed e st g)
+  pub ramps-equal : (h g : History) → serving e st h ≡ serving e st g → Agree e st h g → min (st .ramp) (climbed e st h) ≡ min (st .ramp) (climbed e st g)
   unfolding rows historyReport historyShare
-  ramps-told h g o f = by (serving e st h) refl
+  ramps-equal h g o f = by (serving e st h) refl
     where
       at : serving e st h ≡ true → (k : ℕ) → k ≤ 100000
           → shareOf st (min (st .ramp) (k + climbed e st h)) ≡ shareOf st (min (st .ramp) (k + climbed e st g))
@@ -75,6 +75,6 @@ module _ (e : Equipment) (sound : Sound e) (st : Settings) (ok : settingsAccepte
       by : (b : Bool) → serving e st h ≡ b → min (st .ramp) (climbed e st h) ≡ min (st .ramp) (climbed e st g)
       by false p = ap (min (st .ramp)) (tripped-climbed e st h p ∙ sym (tripped-climbed e st g (sym o ∙ p)))
       by true p =
-          told (st .ramp) (climbed e st h) (climbed e st g) 100000 (sheet-rows st ok .wait .second-high)
+          same-count (st .ramp) (climbed e st h) (climbed e st g) 100000 (sheet-rows st ok .wait .second-high)
           (λ k l. share-carry (st .ramp) _ _ (sheet-rows st ok .wait .second-low) (at p k l))
           (λ k l. share-carry (st .ramp) _ _ (sheet-rows st ok .wait .second-low) (sym (at p k l)))

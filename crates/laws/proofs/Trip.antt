@@ -150,9 +150,9 @@ module _ (e : Equipment) (st : Settings) where
 
   -- ---- a return is in the continuous operation region
 
-  pub in-range-even : Sound e → settingsAccepted st ≡ true → (x : Slice) → inRange e st x ≡ true → regionOf e x ≡ Continuous
+  pub in-range-continuous : Sound e → settingsAccepted st ≡ true → (x : Slice) → inRange e st x ≡ true → regionOf e x ≡ Continuous
   unfolding inRange regionOf
-  in-range-even sound ok x p = continuous-in st ok (permitted x) (lowest e x) (highest e x) (frequency x) p (e .region) (sound .continuous)
+  in-range-continuous sound ok x p = continuous-in st ok (permitted x) (lowest e x) (highest e x) (frequency x) p (e .region) (sound .continuous)
 
-  pub return-even : Sound e → settingsAccepted st ≡ true → (h : History) (x : Slice) → serving e st h ≡ false → serving e st (x ∷ h) ≡ true → regionOf e x ≡ Continuous
-  return-even sound ok h x p q = in-range-even sound ok x (return-law h x p .0 q .throughout 0 (omega arith))
+  pub return-continuous : Sound e → settingsAccepted st ≡ true → (h : History) (x : Slice) → serving e st h ≡ false → serving e st (x ∷ h) ≡ true → regionOf e x ≡ Continuous
+  return-continuous sound ok h x p q = in-range-continuous sound ok x (return-law h x p .0 q .throughout 0 (omega arith))

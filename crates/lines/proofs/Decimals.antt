@@ -12,7 +12,7 @@ use lib.ListN.{length, length-append}
 use mir.Syntax.{w64}
 use mir.Val.{Fits}
 use Rattle.rules.specs.Text.{digitsBefore, decimal}
-use Rattle.lines.specs.Pieces.{pair}
+use Rattle.lines.specs.Pieces.{twoDigits}
 
 -- 20 digits write every number of 64 bits
 pub below : {n : ℕ} → Fits w64 n → n < 10 ^ 20
@@ -63,10 +63,10 @@ more-digits n h below =
     ∙ ap (λ (l : List ℕ). l ++ ((48 + n % 10) ∷ [])) (sym (enough 18 (n / 10) [] (tenth-below 19 n below)))
 
 -- two digits at a time
-pub two-digits : (n : ℕ) → 10 ≤ n → n < 100 → decimal n ≡ pair n
+pub two-digits : (n : ℕ) → 10 ≤ n → n < 100 → decimal n ≡ twoDigits n
 two-digits n h small = more-digits n h (omega arith) ∙ rw (one-digit (n / 10) (omega arith))
 
-pub pair-more : (n : ℕ) → 100 ≤ n → n < 10 ^ 20 → decimal n ≡ decimal (n / 100) ++ pair (n % 100)
+pub pair-more : (n : ℕ) → 100 ≤ n → n < 10 ^ 20 → decimal n ≡ decimal (n / 100) ++ twoDigits (n % 100)
 pair-more n h below =
     let two : n % 100 ≡ (n / 10 % 10) * 10 + n % 10 = mod-mul n {m = 10} {c = 10} (omega arith) (omega arith) in
     let ones : n % 100 % 10 ≡ n % 10 = omega (arith, two) in

@@ -16,7 +16,7 @@ unfoldable pub statusWord : ℕ → List ℕ
 statusWord status = bytes (getD statusWords status "")
 
 -- a table of rows of 11 bytes holds in a status's row the word's length, and the word
-pub record Row (table : List ℕ) (status : ℕ) : Type 0 where
+pub record WordRow (table : List ℕ) (status : ℕ) : Type 0 where
   pub inside : status * 11 + 11 ≤ length table
   pub short : length (statusWord status) ≤ 10
   pub count : getD table (status * 11) 0 ≡ length (statusWord status)
@@ -35,8 +35,8 @@ abbrev pub isSteady : Report → Bool
 isSteady r = eqb (r .status) 2 && (eqb (r .bits) 1 && eqb (r .share) 10000)
 
 -- the two digits of a number below 100
-abbrev pub pair : ℕ → List ℕ
-pair n = (48 + n / 10) ∷ (48 + n % 10) ∷ []
+abbrev pub twoDigits : ℕ → List ℕ
+twoDigits n = (48 + n / 10) ∷ (48 + n % 10) ∷ []
 
 -- ---- room: no piece is longer
 

@@ -6,7 +6,7 @@ ghost use lib.ListN.{length};
 ghost use Rattle.rules.specs.Text.{decimal, signedDecimal};
 ghost use Rattle.rules.specs.Transcripts.{bitDigits, spaced};
 ghost use Rattle.buffers.specs.Written.{Wrote};
-ghost use Rattle.lines.specs.Pieces.{longRoom, numberRoom, pair};
+ghost use Rattle.lines.specs.Pieces.{longRoom, numberRoom, twoDigits};
 use crate::copies::put_byte;
 
 // How many digits a number has.
@@ -43,7 +43,7 @@ fn put_long(out: &mut [u8], at: usize, n: u64) -> usize
 // Two digits.
 fn put_pair(out: &mut [u8], at: usize, n: u32) -> usize
     requires { ⌜ (at + 2 ≤ length (now out)) × (n < 100) ⌝ }
-    ensures { λ r. ⌜ Wrote (now (out .entry)) at (now (out .exit)) r (pair n) ⌝ }
+    ensures { λ r. ⌜ Wrote (now (out .entry)) at (now (out .exit)) r (twoDigits n) ⌝ }
 {
     out[at] = (48 + n / 10) as u8;
     out[at + 1] = (48 + n % 10) as u8;

@@ -2,7 +2,7 @@
 ghost use Prim.Native.Nat.{_+_, _≤_};
 ghost use lib.ListN.{length};
 ghost use Rattle.buffers.specs.Written.{Wrote};
-ghost use Rattle.lines.specs.Pieces.{statusWord, Row};
+ghost use Rattle.lines.specs.Pieces.{statusWord, WordRow};
 use crate::copies::put;
 
 // A row of 11 bytes for each status: the word's length, and the word.
@@ -11,7 +11,7 @@ const WORDS: [u8; 66] =
 
 // The word in a status's row of the table.
 fn put_row(out: &mut [u8], at: usize, words: &[u8], status: u8) -> usize
-    requires { ⌜ (at + 10 ≤ length (now out)) × (status ≤ 5) × Row (now words) status ⌝ }
+    requires { ⌜ (at + 10 ≤ length (now out)) × (status ≤ 5) × WordRow (now words) status ⌝ }
     ensures { λ r. ⌜ Wrote (now (out .entry)) at (now (out .exit)) r (statusWord status) ⌝ }
 {
     let row = (status as usize) * 11;

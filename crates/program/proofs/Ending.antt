@@ -9,12 +9,13 @@ use lib.ListN.{length}
 use Rattle.rules.specs.Samples.{Equipment}
 use Rattle.rules.specs.Text.{firstLine, hasFeed, afterLine}
 use Rattle.rules.specs.Transcripts.{Line, ended, unended, linesIn}
-use Rattle.program.specs.States.{isDone}
+use Rattle.text.specs.Forms.{longest}
+use Rattle.program.specs.States.{isDone, dropping}
 use Rattle.program.specs.Saying.{said}
 use Rattle.program.specs.declared.State.{State}
 use Rattle.formats.proofs.Feeds.{plain-feed, plain-line, plain-after}
 use Rattle.program.proofs.Framing.{lines-fed, lines-unfed}
-use Rattle.program.proofs.Resuming.{done-said, droppedFrom, dropped-said}
+use Rattle.program.proofs.Resuming.{done-said, dropped-said}
 
 unfoldable pub doneAfter : Equipment → State → List Line → Bool
 doneAfter e q [] = isDone q
@@ -37,16 +38,16 @@ module _ (e : Equipment) where
   done-done q (ended l ∷ ls) p = rw (done-said e q l p) (done-done q ls p)
   done-done q (unended l ∷ ls) p = p
 
-  pub done-dropped : (q : State) (s t : List ℕ) → (q .long || ltb 128 (length s)) ≡ true → hasFeed s ≡ false
-      → doneAfter e q (linesIn (s ++ t)) ≡ doneAfter e (droppedFrom q s) (linesIn t)
-  done-dropped q s t long plain = by-done (isDone q) refl
+  pub done-dropped : (q : State) (s t : List ℕ) → (q .overlong || ltb longest (length s)) ≡ true → hasFeed s ≡ false
+      → doneAfter e q (linesIn (s ++ t)) ≡ doneAfter e (dropping q (length s)) (linesIn t)
+  done-dropped q s t overlong plain = by-done (isDone q) refl
     where
-      by-feed : isDone q ≡ false → (k : Bool) → hasFeed t ≡ k → doneAfter e q (linesIn (s ++ t)) ≡ doneAfter e (droppedFrom q s) (linesIn t)
+      by-feed : isDone q ≡ false → (k : Bool) → hasFeed t ≡ k → doneAfter e q (linesIn (s ++ t)) ≡ doneAfter e (dropping q (length s)) (linesIn t)
       by-feed p true f =
           done-fed q (s ++ t) (plain-feed s t plain ∙ f)
-          ∙ rw (plain-line s t plain, plain-after s t plain, dropped-said e q s (q .long) refl long (firstLine t) p) (sym (done-fed (droppedFrom q s) t f))
-      by-feed p false f = done-unfed q (s ++ t) (plain-feed s t plain ∙ f) ∙ sym (done-unfed (droppedFrom q s) t f)
+          ∙ rw (plain-line s t plain, plain-after s t plain, dropped-said e q s (q .overlong) refl overlong (firstLine t) p) (sym (done-fed (dropping q (length s)) t f))
+      by-feed p false f = done-unfed q (s ++ t) (plain-feed s t plain ∙ f) ∙ sym (done-unfed (dropping q (length s)) t f)
 
-      by-done : (k : Bool) → isDone q ≡ k → doneAfter e q (linesIn (s ++ t)) ≡ doneAfter e (droppedFrom q s) (linesIn t)
-      by-done true p = done-done q (linesIn (s ++ t)) p ∙ sym (done-done (droppedFrom q s) (linesIn t) p)
+      by-done : (k : Bool) → isDone q ≡ k → doneAfter e q (linesIn (s ++ t)) ≡ doneAfter e (dropping q (length s)) (linesIn t)
+      by-done true p = done-done q (linesIn (s ++ t)) p ∙ sym (done-done (dropping q (length s)) (linesIn t) p)
       by-done false p = by-feed p (hasFeed t) refl

@@ -17,7 +17,7 @@ use Rattle.basics.proofs.Bools.{both}
 use Rattle.formats.specs.Marks.{formAt}
 use Rattle.sheet.specs.Storing.{onLine}
 use Rattle.program.specs.States.{isDone, readsSheet, stopped, sensible, readState, Fit}
-use Rattle.program.specs.Saying.{numbersIn, onCheck, sheetLine, sampleLine, said}
+use Rattle.program.specs.Saying.{lineNumbers, onCheck, sheetLine, sampleLine, said}
 use Rattle.program.specs.declared.State.{State}
 
 pub fit-less : {q : State} {n : ℕ} (m : ℕ) → Fit q n → m ≤ n → Fit q m
@@ -51,7 +51,7 @@ fit-said e {q} {n} l p f h = rw p (by (readsSheet q) refl)
   where
     by : (b : Bool) → readsSheet q ≡ b → Fit (cond b (sheetLine q l) (sampleLine e q l) .state) (n - (length l + 1))
     by true r =
-        let read = onLine (q .line - 1) (q .settings) (numbersIn (q .long) (formAt (q .line - 1)) l) in
+        let read = onLine (q .line - 1) (q .settings) (lineNumbers (q .overlong) (formAt (q .line - 1)) l) in
         fit-check (length l + 1) (read .settings) (read .check) f r (omega arith) h
     by false r =
         record { from-one = omega arith; low = omega (arith, f .low); high = omega (arith, f .high); sheet = λ k. absurd (false≢true k) }

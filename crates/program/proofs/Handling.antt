@@ -82,23 +82,23 @@ module _ (e : Equipment) (h : Said) (s more : List ℕ) (plain : hasFeed s ≡ f
         on = λ p. refl;
       }
 
-  keeps-dropped : (h .state .long || ltb longest (length s)) ≡ true → Keeps e h s more (dropped h s)
-  keeps-dropped long =
+  keeps-dropped : (h .state .overlong || ltb longest (length s)) ≡ true → Keeps e h s more (dropped h s)
+  keeps-dropped overlong =
       let all : h .state .taken + length s - h .state .taken ≡ length s = omega arith in
       record {
         low = omega arith;
         high = omega arith;
-        says = rw (all, drop-length s) (ap (λ (t : List ℕ). h .text ++ t) (dropped-resume e (h .state) s (h .state .long) refl long more plain));
-        finish = λ p. rw (all, drop-length s) (sym (done-dropped e (h .state) s more long plain) ∙ p);
-        took = λ t n. rw (all, take-length s) (ap (λ (l : List ℕ). h .text ++ l) (dropped-resume e (h .state) s (h .state .long) refl long t plain));
+        says = rw (all, drop-length s) (ap (λ (t : List ℕ). h .text ++ t) (dropped-resume e (h .state) s (h .state .overlong) refl overlong more plain));
+        finish = λ p. rw (all, drop-length s) (sym (done-dropped e (h .state) s more overlong plain) ∙ p);
+        took = λ t n. rw (all, take-length s) (ap (λ (l : List ℕ). h .text ++ l) (dropped-resume e (h .state) s (h .state .overlong) refl overlong t plain));
         on = λ p. p;
       }
 
   keeps-tail : (ends : Bool) → (ends ≡ true → more ≡ []) → Keeps e h s more (atTail ends h s)
   keeps-tail true last = keeps-closed (last refl)
-  keeps-tail false last = by (h .state .long || ltb longest (length s)) refl
+  keeps-tail false last = by (h .state .overlong || ltb longest (length s)) refl
     where
-      by : (b : Bool) → (h .state .long || ltb longest (length s)) ≡ b → Keeps e h s more (cond b (dropped h s) h)
+      by : (b : Bool) → (h .state .overlong || ltb longest (length s)) ≡ b → Keeps e h s more (cond b (dropped h s) h)
       by true p = keeps-dropped p
       by false p = stays e h s more
 
@@ -185,7 +185,7 @@ module _ (e : Equipment) (ends : Bool) (size : ℕ) (h : Said) (s more : List �
 
   fit-end : (b : Bool) → Fit (h .state) (length s) → Fit (atTail b h s .state) 0
   fit-end true f = fit-less 0 (fit-stopped (length s) f (omega arith)) (omega arith)
-  fit-end false f = by (h .state .long || ltb longest (length s))
+  fit-end false f = by (h .state .overlong || ltb longest (length s))
     where
       by : (b : Bool) → Fit (cond b (dropped h s) h .state) 0
       by true = record { from-one = f .from-one; low = omega (arith, f .low); high = omega (arith, f .high); sheet = f .sheet }
@@ -240,9 +240,9 @@ pub record Settled (ends : Bool) (h : Said) (s : List ℕ) (k : Said) : Type 0 w
 
 settled-tail : (ends : Bool) (size : ℕ) (h : Said) (s : List ℕ) → hasFeed s ≡ false → stops size (atTail ends h s) ≡ false → Settled ends h s (atTail ends h s)
 settled-tail true size h s f e = absurd (false≢true (sym e))
-settled-tail false size h s f e = by (h .state .long || ltb longest (length s)) refl
+settled-tail false size h s f e = by (h .state .overlong || ltb longest (length s)) refl
   where
-    by : (b : Bool) → (h .state .long || ltb longest (length s)) ≡ b → Settled false h s (cond b (dropped h s) h)
+    by : (b : Bool) → (h .state .overlong || ltb longest (length s)) ≡ b → Settled false h s (cond b (dropped h s) h)
     by true p =
         let all : h .state .taken + length s - h .state .taken ≡ length s = omega arith in
         let none : drop (h .state .taken + length s - h .state .taken) s ≡ [] = rw all (drop-length s) in
@@ -252,7 +252,7 @@ settled-tail false size h s f e = by (h .state .long || ltb longest (length s)) 
         record {
           going-on = refl;
           unfed = ap hasFeed here ∙ f;
-          short = omega (arith, ap length here, ltb-false longest (length s) (neither (h .state .long) (ltb longest (length s)) p .1));
+          short = omega (arith, ap length here, ltb-false longest (length s) (neither (h .state .overlong) (ltb longest (length s)) p .1));
         }
 
 settled-by : (e : Equipment) (ends : Bool) (size : ℕ) (h : Said) (s : List ℕ) → (b : Bool) → hasFeed s ≡ b

@@ -150,7 +150,7 @@ module _ (e : Equipment) (q : State) (block : List ℕ) (last : Bool) (size : �
   -- ---- a call that takes nothing
 
   quiet : hasFeed s ≡ false → ends ≡ false → answer .text ≡ []
-  quiet f p = rw (answer-is ∙ handled-unfed e ends size begun s f, p) (by (stops size begun) (q .long || ltb longest (length s)))
+  quiet f p = rw (answer-is ∙ handled-unfed e ends size begun s f, p) (by (stops size begun) (q .overlong || ltb longest (length s)))
     where
       by : (b k : Bool) → cond b begun (cond k (dropped begun s) begun) .text ≡ []
       by true k = refl
@@ -170,10 +170,10 @@ module _ (e : Equipment) (q : State) (block : List ℕ) (last : Bool) (size : �
 
   -- ---- among the samples
 
-  module _ (samples : q .phase ≡ 1) (whole : q .long ≡ false) (left-whole : answer .state .long ≡ false) where
+  module _ (samples : q .stage ≡ 1) (whole : q .overlong ≡ false) (left-whole : answer .state .overlong ≡ false) where
     q-is : q ≡ sampling (q .settings) (q .board) (q .line) (q .taken)
     q-is =
-        ap₂ (λ (p : ℕ) (l : Bool). record { phase = p; line = q .line; long = l; taken = q .taken; settings = q .settings; board = q .board }) samples whole
+        ap₂ (λ (p : ℕ) (l : Bool). record { stage = p; line = q .line; overlong = l; taken = q .taken; settings = q .settings; board = q .board }) samples whole
 
     pub answers-taken : answer .text ≡ answersFrom e (q .settings) (q .board) (q .line) (linesIn (take (answer .state .taken - q .taken) block))
     answers-taken =

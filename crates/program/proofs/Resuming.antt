@@ -13,14 +13,16 @@ use Rattle.rules.specs.Samples.{Equipment}
 use Rattle.rules.specs.Forms.{sheetForms, sampleForm}
 use Rattle.rules.specs.Text.{feed, firstLine, hasFeed, afterLine}
 use Rattle.rules.specs.Transcripts.{Line, ended, unended, linesIn}
+use Rattle.rules.specs.Settings.{sheetLines}
 use Rattle.rules.specs.declared.Settings.{Settings}
 use Rattle.rules.specs.declared.SettingsCheck.{SettingsCheck}
 use Rattle.formats.specs.Marks.{forms, formAt}
+use Rattle.text.specs.Forms.{longest}
 use Rattle.text.proofs.Made.{too-long}
 use Rattle.sheet.specs.Storing.{onLine}
 use borrow.Author.Tests.{ltb-true}
-use Rattle.program.specs.States.{isDone, readsSheet}
-use Rattle.program.specs.Saying.{numbersIn, onCheck, sheetLine, sampleLine, said, isSome, endText, following, resume}
+use Rattle.program.specs.States.{isDone, readsSheet, dropping}
+use Rattle.program.specs.Saying.{lineNumbers, onCheck, sheetLine, sampleLine, said, isSome, endText, following, resume}
 use Rattle.program.specs.declared.State.{State}
 use Rattle.formats.proofs.Feeds.{plain-feed, plain-line, plain-after}
 use Rattle.formats.proofs.Samples.{plain-first}
@@ -62,7 +64,7 @@ module _ (e : Equipment) where
 
   -- ---- nothing more comes, and no line has begun
 
-  pub resume-none : (q : State) → readsSheet q ≡ false → q .long ≡ false → resume e q [] ≡ []
+  pub resume-none : (q : State) → readsSheet q ≡ false → q .overlong ≡ false → resume e q [] ≡ []
   unfolding hasFeed endText
   resume-none q p whole = resume-unfed q [] refl ∙ rw (p, whole) (by (isDone q))
     where
@@ -82,34 +84,29 @@ module _ (e : Equipment) where
     where
       by : (b : Bool) → cond b (sheetLine q l) (sampleLine e q l) .state .taken ≡ q .taken + (length l + 1)
       by true =
-          let r = onLine (q .line - 1) (q .settings) (numbersIn (q .long) (formAt (q .line - 1)) l) in
+          let r = onLine (q .line - 1) (q .settings) (lineNumbers (q .overlong) (formAt (q .line - 1)) l) in
           check-taken q (length l + 1) (r .settings) (r .check)
       by false = refl
 
 -- ---- a line longer than any form
 
--- the state once the bytes s of a line are dropped
-abbrev pub droppedFrom : State → List ℕ → State
-droppedFrom q s =
-    record { phase = q .phase; line = q .line; long = true; taken = q .taken + length s; settings = q .settings; board = q .board }
-
-sample-form : formAt 13 ≡ sampleForm
+sample-form : formAt sheetLines ≡ sampleForm
 unfolding forms sheetForms
 sample-form = refl
 
 -- by now the line has no form, whatever follows
-module _ (e : Equipment) (q : State) (s : List ℕ) (b : Bool) (is : q .long ≡ b) (h : (b || ltb 128 (length s)) ≡ true) where
-  no-numbers : (i : ℕ) (l : List ℕ) → numbersIn (q .long) (formAt i) (s ++ l) ≡ none
+module _ (e : Equipment) (q : State) (s : List ℕ) (b : Bool) (is : q .overlong ≡ b) (h : (b || ltb longest (length s)) ≡ true) where
+  no-numbers : (i : ℕ) (l : List ℕ) → lineNumbers (q .overlong) (formAt i) (s ++ l) ≡ none
   no-numbers i l = rw is (by b h)
     where
-      by : (k : Bool) → (k || ltb 128 (length s)) ≡ true → numbersIn k (formAt i) (s ++ l) ≡ none
+      by : (k : Bool) → (k || ltb longest (length s)) ≡ true → lineNumbers k (formAt i) (s ++ l) ≡ none
       by true p = refl
-      by false p = too-long i (s ++ l) (omega (arith, length-append s l, ltb-true 128 (length s) p))
+      by false p = too-long i (s ++ l) (omega (arith, length-append s l, ltb-true longest (length s) p))
 
-  some-bytes : (t : List ℕ) → (q .long || isSome (s ++ t)) ≡ true
+  some-bytes : (t : List ℕ) → (q .overlong || isSome (s ++ t)) ≡ true
   some-bytes t = rw is (by b s h)
     where
-      by : (k : Bool) (r : List ℕ) → (k || ltb 128 (length r)) ≡ true → (k || isSome (r ++ t)) ≡ true
+      by : (k : Bool) (r : List ℕ) → (k || ltb longest (length r)) ≡ true → (k || isSome (r ++ t)) ≡ true
       by true r p = refl
       by false [] p = absurd (false≢true p)
       by false (c ∷ r) p = refl
@@ -117,30 +114,30 @@ module _ (e : Equipment) (q : State) (s : List ℕ) (b : Bool) (is : q .long ≡
   longer : (l : List ℕ) → q .taken + (length (s ++ l) + 1) ≡ q .taken + length s + (length l + 1)
   longer l = omega (arith, length-append s l)
 
-  pub dropped-said : (l : List ℕ) → isDone q ≡ false → said e q (s ++ l) ≡ said e (droppedFrom q s) l
+  pub dropped-said : (l : List ℕ) → isDone q ≡ false → said e q (s ++ l) ≡ said e (dropping q (length s)) l
   unfolding said
   dropped-said l p = rw p (by (readsSheet q))
     where
-      by : (k : Bool) → cond k (sheetLine q (s ++ l)) (sampleLine e q (s ++ l)) ≡ cond k (sheetLine (droppedFrom q s) l) (sampleLine e (droppedFrom q s) l)
+      by : (k : Bool) → cond k (sheetLine q (s ++ l)) (sampleLine e q (s ++ l)) ≡ cond k (sheetLine (dropping q (length s)) l) (sampleLine e (dropping q (length s)) l)
       by true = rw (no-numbers (q .line - 1) l, longer l)
       by false =
-          rw (← sample-form) (rw (no-numbers 13 l, longer l))
+          rw (← sample-form) (rw (no-numbers sheetLines l, longer l))
 
-  pub dropped-end : (t : List ℕ) → endText q (s ++ t) ≡ endText (droppedFrom q s) t
+  pub dropped-end : (t : List ℕ) → endText q (s ++ t) ≡ endText (dropping q (length s)) t
   unfolding endText
   dropped-end t = rw (some-bytes t)
 
-  pub dropped-resume : (t : List ℕ) → hasFeed s ≡ false → resume e q (s ++ t) ≡ resume e (droppedFrom q s) t
+  pub dropped-resume : (t : List ℕ) → hasFeed s ≡ false → resume e q (s ++ t) ≡ resume e (dropping q (length s)) t
   dropped-resume t plain = by-done (isDone q) refl
     where
-      by-feed : isDone q ≡ false → (k : Bool) → hasFeed t ≡ k → resume e q (s ++ t) ≡ resume e (droppedFrom q s) t
+      by-feed : isDone q ≡ false → (k : Bool) → hasFeed t ≡ k → resume e q (s ++ t) ≡ resume e (dropping q (length s)) t
       by-feed p true f =
           resume-fed e q (s ++ t) (plain-feed s t plain ∙ f)
-          ∙ rw (plain-line s t plain, plain-after s t plain, dropped-said (firstLine t) p) (sym (resume-fed e (droppedFrom q s) t f))
+          ∙ rw (plain-line s t plain, plain-after s t plain, dropped-said (firstLine t) p) (sym (resume-fed e (dropping q (length s)) t f))
       by-feed p false f =
           resume-unfed e q (s ++ t) (plain-feed s t plain ∙ f)
-          ∙ dropped-end t ∙ sym (resume-unfed e (droppedFrom q s) t f)
+          ∙ dropped-end t ∙ sym (resume-unfed e (dropping q (length s)) t f)
 
-      by-done : (k : Bool) → isDone q ≡ k → resume e q (s ++ t) ≡ resume e (droppedFrom q s) t
-      by-done true p = done-resume e q (s ++ t) p ∙ sym (done-resume e (droppedFrom q s) t p)
+      by-done : (k : Bool) → isDone q ≡ k → resume e q (s ++ t) ≡ resume e (dropping q (length s)) t
+      by-done true p = done-resume e q (s ++ t) p ∙ sym (done-resume e (dropping q (length s)) t p)
       by-done false p = by-feed p (hasFeed t) refl

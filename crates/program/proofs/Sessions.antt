@@ -16,8 +16,8 @@ use Rattle.rules.specs.declared.Refusal.{Refusal}
 use Rattle.rules.specs.declared.SettingsCheck.{SettingsCheck}
 use Rattle.program.specs.States.{Fit, start, isDone}
 use Rattle.program.specs.Saying.{Said, resume}
-use Rattle.program.specs.Responses.{budget, respondOf}
-use Rattle.program.specs.Sessions.{Session, Call, opened, called, during, ending, joined, cut, Roomy, TranscriptLaw}
+use Rattle.program.specs.Responses.{lineRoom, budget, respondOf}
+use Rattle.program.specs.Sessions.{Session, Delivery, opened, delivered, during, ending, joined, cut, Roomy, TranscriptLaw}
 use Rattle.program.proofs.Fitting.{sensible-fit, fit-sensible}
 use Rattle.program.proofs.Resuming.{done-resume, resume-none}
 use Rattle.program.proofs.Ending.{doneAfter, done-unfed}
@@ -45,19 +45,19 @@ module _ (e : Equipment) where
         says = λ more. sym (resume-start e (take inputEnd more));
       }
 
-  module _ (k : Session) (c : Call) (last : Bool) where
+  module _ (k : Session) (c : Delivery) (last : Bool) where
     abbrev block : List ℕ
     block = k .left ++ c .bytes
 
     -- a call says what was to be said of what it took
-    call-says : Fit (k .state) 0 → (more : List ℕ) → (last ≡ true → more ≡ []) → k .text ++ still k (c .bytes ++ more) ≡ called e last k c .text ++ still (called e last k c) more
+    call-says : Fit (k .state) 0 → (more : List ℕ) → (last ≡ true → more ≡ []) → k .text ++ still k (c .bytes ++ more) ≡ delivered e last k c .text ++ still (delivered e last k c) more
     call-says fit more none-more =
         ap (λ (l : List ℕ). k .text ++ resume e (k .state) (take (budget (k .state)) l)) (sym (append-assoc (k .left) (c .bytes) more))
         ∙ ap (λ (l : List ℕ). k .text ++ l) (says e (k .state) block last (c .size) fit more none-more)
-        ∙ sym (append-assoc (k .text) (respondOf e (k .state) block last (c .size) .text) (still (called e last k c) more))
+        ∙ sym (append-assoc (k .text) (respondOf e (k .state) block last (c .size) .text) (still (delivered e last k c) more))
 
-  good-called : (k : Session) (input : List ℕ) (c : Call) → Good k input → Good (called e false k c) (input ++ c .bytes)
-  good-called k input c g =
+  good-delivered : (k : Session) (input : List ℕ) (c : Delivery) → Good k input → Good (delivered e false k c) (input ++ c .bytes)
+  good-delivered k input c g =
       record {
         fit = fit-after e (k .state) (k .left ++ c .bytes) false (c .size) (g .fit);
         finish = λ more p.
@@ -66,11 +66,11 @@ module _ (e : Equipment) where
         says = λ more. ap (transcript e) (append-assoc input (c .bytes) more) ∙ g .says (c .bytes ++ more) ∙ call-says k c false (g .fit) more (λ p. absurd (false≢true p));
       }
 
-  good-during : (k : Session) (input : List ℕ) (cs : List Call) → Good k input → Good (during e k cs) (input ++ joined cs)
+  good-during : (k : Session) (input : List ℕ) (cs : List Delivery) → Good k input → Good (during e k cs) (input ++ joined cs)
   unfolding during joined
   good-during k input [] g = subst (Good k) (sym (append-nil input)) g
   good-during k input (c ∷ cs) g =
-      subst (Good (during e (called e false k c) cs)) (append-assoc input (c .bytes) (joined cs)) (good-during (called e false k c) (input ++ c .bytes) cs (good-called k input c g))
+      subst (Good (during e (delivered e false k c) cs)) (append-assoc input (c .bytes) (joined cs)) (good-during (delivered e false k c) (input ++ c .bytes) cs (good-delivered k input c g))
 
   -- ---- once the input has ended
 
@@ -81,10 +81,10 @@ module _ (e : Equipment) where
   good-ended : (k : Session) (input : List ℕ) → Good k input → Ended k input
   good-ended k input g = record { fit = g .fit; says = ap (transcript e) (sym (append-nil input)) ∙ g .says [] }
 
-  abbrev closing : ℕ → Call
+  abbrev closing : ℕ → Delivery
   closing size = record { bytes = []; size = size }
 
-  ended-called : (k : Session) (input : List ℕ) (size : ℕ) → Ended k input → Ended (called e true k (closing size)) input
+  ended-called : (k : Session) (input : List ℕ) (size : ℕ) → Ended k input → Ended (delivered e true k (closing size)) input
   ended-called k input size g =
       record {
         fit = fit-after e (k .state) (k .left ++ []) true size (g .fit);
@@ -94,7 +94,7 @@ module _ (e : Equipment) where
   ended-ending : (k : Session) (input : List ℕ) (sizes : List ℕ) → Ended k input → Ended (ending e k sizes) input
   unfolding ending
   ended-ending k input [] g = g
-  ended-ending k input (size ∷ sizes) g = ended-ending (called e true k (closing size)) input sizes (ended-called k input size g)
+  ended-ending k input (size ∷ sizes) g = ended-ending (delivered e true k (closing size)) input sizes (ended-called k input size g)
 
   -- ---- the bytes that were taken
 
@@ -116,12 +116,12 @@ module _ (e : Equipment) where
         says = λ t n. sym (resume-start e t);
       }
 
-  module _ (k : Session) (input : List ℕ) (c : Call) (last : Bool) (g : Took k input) where
+  module _ (k : Session) (input : List ℕ) (c : Delivery) (last : Bool) (g : Took k input) where
     abbrev whole : List ℕ
     whole = k .left ++ c .bytes
 
     abbrev then : Session
-    then = called e last k c
+    then = delivered e last k c
 
     abbrev more : List ℕ
     more = take (then .state .taken - k .state .taken) whole
@@ -144,8 +144,8 @@ module _ (e : Equipment) where
         let z : then .state .taken - k .state .taken ≡ 0 = omega (arith, ap (λ (h : Said). h .state .taken) same) in
         rw z (n (ap (λ (h : Said). isDone (h .state)) same ∙ p))
 
-    took-called : Took then (input ++ c .bytes)
-    took-called =
+    took-delivered : Took then (input ++ c .bytes)
+    took-delivered =
         record {
           bytes = g .bytes ++ more;
           splits = more-splits;
@@ -158,76 +158,76 @@ module _ (e : Equipment) where
               ∙ sym (append-assoc (k .text) (respondOf e (k .state) whole last (c .size) .text) (resume e (then .state) t));
         }
 
-  took-during : (k : Session) (input : List ℕ) (cs : List Call) → Took k input → Took (during e k cs) (input ++ joined cs)
+  took-during : (k : Session) (input : List ℕ) (cs : List Delivery) → Took k input → Took (during e k cs) (input ++ joined cs)
   unfolding during joined
   took-during k input [] g = subst (Took k) (sym (append-nil input)) g
   took-during k input (c ∷ cs) g =
-      subst (Took (during e (called e false k c) cs)) (append-assoc input (c .bytes) (joined cs)) (took-during (called e false k c) (input ++ c .bytes) cs (took-called k input c false g))
+      subst (Took (during e (delivered e false k c) cs)) (append-assoc input (c .bytes) (joined cs)) (took-during (delivered e false k c) (input ++ c .bytes) cs (took-delivered k input c false g))
 
   took-ending : (k : Session) (input : List ℕ) (sizes : List ℕ) → Took k input → Took (ending e k sizes) input
   unfolding ending
   took-ending k input [] g = g
   took-ending k input (size ∷ sizes) g =
-      took-ending (called e true k (closing size)) input sizes (subst (Took (called e true k (closing size))) (append-nil input) (took-called k input (closing size) true g))
+      took-ending (delivered e true k (closing size)) input sizes (subst (Took (delivered e true k (closing size))) (append-nil input) (took-delivered k input (closing size) true g))
 
   -- the sheet is read, and no begun line is dropped
-  took-text : (k : Session) (input : List ℕ) → Took k input → 1 ≤ k .state .phase → k .state .long ≡ false → k .text ≡ transcript e (take (k .state .taken) input)
+  took-text : (k : Session) (input : List ℕ) → Took k input → 1 ≤ k .state .stage → k .state .overlong ≡ false → k .text ≡ transcript e (take (k .state .taken) input)
   unfolding transcript
   took-text k input g p whole =
       let cutting : take inputEnd (take (k .state .taken) input) ≡ g .bytes ++ [] = ap (take inputEnd) (ap (take (k .state .taken)) (g .splits) ∙ take-at (g .bytes) (k .left) (k .state .taken) (g .counts)) ∙ take-all inputEnd (g .bytes) (omega (arith, g .counts, g .fit .high)) ∙ sym (append-nil (g .bytes)) in
-      let quiet = resume-none e (k .state) (ne-eqb (k .state .phase) 0 (λ z. omega arith)) whole in
+      let quiet = resume-none e (k .state) (ne-eqb (k .state .stage) 0 (λ z. omega arith)) whole in
       sym (ap (transcriptOf e) cutting ∙ g .says [] (λ z. refl) ∙ ap (λ (l : List ℕ). k .text ++ l) quiet ∙ append-nil (k .text))
 
   -- ---- enough calls
 
   -- a call that leaves something to do leaves fewer bytes
-  fewer : (k : Session) (size : ℕ) → Fit (k .state) 0 → 128 ≤ size → isDone (called e true k (closing size) .state) ≡ false
-      → length (called e true k (closing size) .left) < length (k .left)
+  fewer : (k : Session) (size : ℕ) → Fit (k .state) 0 → lineRoom ≤ size → isDone (delivered e true k (closing size) .state) ≡ false
+      → length (delivered e true k (closing size) .left) < length (k .left)
   fewer k size fit roomy going = by (isDone (k .state)) refl (hasFeed (s e (k .state) (k .left ++ []) true size fit)) refl
     where
       by : (b : Bool) → isDone (k .state) ≡ b → (f : Bool) → hasFeed (s e (k .state) (k .left ++ []) true size fit) ≡ f
-          → length (called e true k (closing size) .left) < length (k .left)
+          → length (delivered e true k (closing size) .left) < length (k .left)
       by true p f r =
           absurd (false≢true (sym going ∙ ap (λ h. isDone (h .state)) (done-stays e (k .state) (k .left ++ []) true size fit p) ∙ p))
       by false p false r = absurd (false≢true (sym going ∙ tail-closed e (k .state) (k .left ++ []) true size fit p roomy r refl))
       by false p true r =
-          omega (arith, line-taken e (k .state) (k .left ++ []) true size fit p roomy r, taken-high e (k .state) (k .left ++ []) true size fit [] (λ p. refl), length-drop (called e true k (closing size) .state .taken - k .state .taken) (k .left ++ []), length-append (k .left) [])
+          omega (arith, line-taken e (k .state) (k .left ++ []) true size fit p roomy r, taken-high e (k .state) (k .left ++ []) true size fit [] (λ p. refl), length-drop (delivered e true k (closing size) .state .taken - k .state .taken) (k .left ++ []), length-append (k .left) [])
 
   stays-done : (k : Session) (sizes : List ℕ) → Fit (k .state) 0 → isDone (k .state) ≡ true → isDone (ending e k sizes .state) ≡ true
   unfolding ending
   stays-done k [] fit p = p
   stays-done k (size ∷ sizes) fit p =
-      stays-done (called e true k (closing size)) sizes (fit-after e (k .state) (k .left ++ []) true size fit)
+      stays-done (delivered e true k (closing size)) sizes (fit-after e (k .state) (k .left ++ []) true size fit)
       (ap (λ h. isDone (h .state)) (done-stays e (k .state) (k .left ++ []) true size fit p) ∙ p)
 
   all-done : (k : Session) (sizes : List ℕ) → Fit (k .state) 0 → Roomy sizes → length (k .left) < length sizes → isDone (ending e k sizes .state) ≡ true
   unfolding ending Roomy
   all-done k [] fit r h = absurd (omega arith)
   all-done k (size ∷ sizes) fit r h =
-      by (isDone (called e true k (closing size) .state)) refl
-      (λ p. all-done (called e true k (closing size)) sizes (fit-after e (k .state) (k .left ++ []) true size fit) (r .1) (omega (arith, fewer k size fit (r .0) p)))
+      by (isDone (delivered e true k (closing size) .state)) refl
+      (λ p. all-done (delivered e true k (closing size)) sizes (fit-after e (k .state) (k .left ++ []) true size fit) (r .1) (omega (arith, fewer k size fit (r .0) p)))
     where
-      by : (b : Bool) → isDone (called e true k (closing size) .state) ≡ b
-          → (isDone (called e true k (closing size) .state) ≡ false → isDone (ending e (called e true k (closing size)) sizes .state) ≡ true)
-          → isDone (ending e (called e true k (closing size)) sizes .state) ≡ true
-      by true p rest = stays-done (called e true k (closing size)) sizes (fit-after e (k .state) (k .left ++ []) true size fit) p
+      by : (b : Bool) → isDone (delivered e true k (closing size) .state) ≡ b
+          → (isDone (delivered e true k (closing size) .state) ≡ false → isDone (ending e (delivered e true k (closing size)) sizes .state) ≡ true)
+          → isDone (ending e (delivered e true k (closing size)) sizes .state) ≡ true
+      by true p rest = stays-done (delivered e true k (closing size)) sizes (fit-after e (k .state) (k .left ++ []) true size fit) p
       by false p rest = rest p
 
   -- ---- the law
 
-  abbrev after : List Call → Session
+  abbrev after : List Delivery → Session
   after cs = during e opened cs
 
-  good : (cs : List Call) → Good (after cs) (joined cs)
+  good : (cs : List Delivery) → Good (after cs) (joined cs)
   good cs = good-during opened [] cs good-opened
 
-  at-end : (cs : List Call) (sizes : List ℕ) → Ended (ending e (after cs) sizes) (joined cs)
+  at-end : (cs : List Delivery) (sizes : List ℕ) → Ended (ending e (after cs) sizes) (joined cs)
   at-end cs sizes = ended-ending (after cs) (joined cs) sizes (good-ended (after cs) (joined cs) (good cs))
 
   nothing-more : (k : Session) (more : List ℕ) → isDone (k .state) ≡ true → k .text ++ still k more ≡ k .text
   nothing-more k more p = rw (done-resume e (k .state) (take (budget (k .state)) (k .left ++ more)) p) (append-nil (k .text))
 
-  ends-known : (cs : List Call) (cause : Refusal) (n : ℕ) → readSheet (cut cs) .check ≡ SettingsCheck.Refused cause n → hasFeed (drop (readSheet (cut cs) .start) (cut cs)) ≡ true
+  ends-known : (cs : List Delivery) (cause : Refusal) (n : ℕ) → readSheet (cut cs) .check ≡ SettingsCheck.Refused cause n → hasFeed (drop (readSheet (cut cs) .start) (cut cs)) ≡ true
       → hasFeed (after cs .left) ≡ false → isDone (after cs .state) ≡ true
   ends-known cs cause n c f left =
       let k = after cs in

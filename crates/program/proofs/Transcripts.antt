@@ -27,7 +27,7 @@ use Rattle.sheet.specs.Storing.{lineRead}
 use Rattle.sheet.specs.declared.LineRead.{LineRead}
 use Rattle.sheet.proofs.Reading.{from, from-unended, from-end, on-accepted, on-refused}
 use Rattle.program.specs.States.{start, stopped}
-use Rattle.program.specs.Saying.{Said, onRead, onCheck, phaseAfter, said, endText, resume}
+use Rattle.program.specs.Saying.{Said, onRead, onCheck, stageAfter, said, endText, resume}
 use Rattle.program.specs.declared.State.{State}
 use Rattle.program.proofs.Framing.{lines-fed, lines-unfed}
 use Rattle.program.proofs.Ending.{doneAfter, done-fed, done-done}
@@ -37,7 +37,7 @@ use Rattle.program.proofs.Handling.{after-shorter}
 -- ---- the samples
 
 abbrev pub sampling : Settings → Board → ℕ → ℕ → State
-sampling st b n t = record { phase = 1; line = n; long = false; taken = t; settings = st; board = b }
+sampling st b n t = record { stage = 1; line = n; overlong = false; taken = t; settings = st; board = b }
 
 module _ (e : Equipment) (st : Settings) (b : Board) (n t : ℕ) (s : List ℕ) where
   abbrev pub answered : Stepped
@@ -85,7 +85,7 @@ resume-samples e st b n t s = samples-within e st (length s) b n t s (omega arit
 
 -- i lines are read, and the next begins at a place
 abbrev pub reading : Settings → ℕ → ℕ → State
-reading st i at = record { phase = 0; line = i + 1; long = false; taken = at; settings = st; board = fresh }
+reading st i at = record { stage = 0; line = i + 1; overlong = false; taken = at; settings = st; board = fresh }
 
 abbrev to-the-end : Equipment → List ℕ → SheetReading → List ℕ
 to-the-end e s r = onSheet e r (r .check) s
@@ -135,7 +135,7 @@ module _ (e : Equipment) (s : List ℕ) (i at : ℕ) (lines : List (List Pair)) 
 
     -- the state after an accepted line
     abbrev onward : Settings → State
-    onward st = record { phase = phaseAfter (i + 1); line = i + 1 + 1; long = false; taken = past; settings = st; board = fresh }
+    onward st = record { stage = stageAfter (i + 1); line = i + 1 + 1; overlong = false; taken = past; settings = st; board = fresh }
 
     abbrev Rest : Type 0
     Rest = (more : List (List Pair)) → length more ≡ i + 1 → resume e (onward (settingsOf more)) (drop past s) ≡ to-the-end e s (from s (i + 1) past more)
@@ -160,7 +160,7 @@ module _ (e : Equipment) (s : List ℕ) (i at : ℕ) (lines : List (List Pair)) 
 
 -- past the thirteenth line
 sheet-done : (e : Equipment) (s : List ℕ) (at : ℕ) (lines : List (List Pair)) (i : ℕ) → i ≡ sheetLines
-    → resume e (record { phase = 1; line = i + 1; long = false; taken = at; settings = settingsOf lines; board = fresh }) (drop at s) ≡ to-the-end e s (from s i at lines)
+    → resume e (record { stage = 1; line = i + 1; overlong = false; taken = at; settings = settingsOf lines; board = fresh }) (drop at s) ≡ to-the-end e s (from s i at lines)
 sheet-done e s at lines i is =
     resume-samples e (settingsOf lines) fresh (i + 1) at (drop at s)
     ∙ rw is refl
@@ -203,7 +203,7 @@ record Known (s : List ℕ) (r : SheetReading) : Type 0 where
 
 known-by : (e : Equipment) (s : List ℕ) (i at : ℕ) (lines : List (List Pair)) (h : i < sheetLines) (long : length lines ≡ i) → Known s (from s i at lines) → (b : Bool) → hasFeed (drop at s) ≡ b
     → ((more : List (List Pair)) → length more ≡ i + 1 → Known s (from s (i + 1) (at + length (firstLine (drop at s)) + 1) more)
-    → doneAfter e (record { phase = phaseAfter (i + 1); line = i + 1 + 1; long = false; taken = at + length (firstLine (drop at s)) + 1; settings = settingsOf more; board = fresh }) (linesIn (drop (at + length (firstLine (drop at s)) + 1) s)) ≡ true)
+    → doneAfter e (record { stage = stageAfter (i + 1); line = i + 1 + 1; overlong = false; taken = at + length (firstLine (drop at s)) + 1; settings = settingsOf more; board = fresh }) (linesIn (drop (at + length (firstLine (drop at s)) + 1) s)) ≡ true)
     → doneAfter e (reading (settingsOf lines) i at) (linesIn (drop at s)) ≡ true
 known-by e s i at lines h long k false f rest =
     let same = from-unended s i at lines h f in

@@ -7,14 +7,11 @@ use lib.Dec.{ltb, leb}
 use lib.ListN.{length, take}
 use Rattle.rules.specs.Samples.{Equipment}
 pub use Rattle.rules.specs.Transcripts.{lineRoom}
+pub use Rattle.text.specs.Forms.{longest}
 use Rattle.rules.specs.Transcripts.{Line, ended, unended, linesIn, inputEnd}
-use Rattle.program.specs.States.{isDone, stopped, readState}
+use Rattle.program.specs.States.{isDone, stopped, dropping, readState}
 use Rattle.program.specs.Saying.{Said, said, endText}
 use Rattle.program.specs.declared.State.{State}
-
--- no line of a form is longer
-abbrev pub longest : ℕ
-longest = 128
 
 -- nothing more is said: all is done, or a buffer of this size has no room for a line more
 abbrev pub stops : ℕ → Said → Bool
@@ -29,16 +26,11 @@ closed h l = record { state = stopped (h .state) (length l); text = h .text ++ e
 
 -- the bytes l of a line longer than any form are taken and dropped
 abbrev pub dropped : Said → List ℕ → Said
-dropped h l =
-    let q = h .state in
-    record {
-      state = record { phase = q .phase; line = q .line; long = true; taken = q .taken + length l; settings = q .settings; board = q .board };
-      text = h .text;
-    }
+dropped h l = record { state = dropping (h .state) (length l); text = h .text }
 
 -- after the last line feed stand the bytes l; where the input does not end with them, they wait for their line feed
 abbrev pub atTail : Bool → Said → List ℕ → Said
-atTail ends h l = cond ends (closed h l) (cond (h .state .long || ltb longest (length l)) (dropped h l) h)
+atTail ends h l = cond ends (closed h l) (cond (h .state .overlong || ltb longest (length l)) (dropped h l) h)
 
 -- the lines of a block, as many as are there and fit
 unfoldable pub handled : Equipment → Bool → ℕ → Said → List Line → Said

@@ -27,21 +27,21 @@ pub record Said : Type 0 where
   pub text : List ℕ
 
 -- the numbers of an ended line by its form; a line whose beginning was dropped has none
-abbrev pub numbersIn : Bool → List ℕ → List ℕ → Option (List ℤ)
-numbersIn long form l = cond long none (numbersOf form l)
+abbrev pub lineNumbers : Bool → List ℕ → List ℕ → Option (List ℤ)
+lineNumbers overlong form l = cond overlong none (numbersOf form l)
 
 -- ---- the sheet's lines
 
 -- line 13 is the sheet's last
-abbrev pub phaseAfter : ℕ → ℕ
-phaseAfter line = cond (eqb line sheetLines) 1 0
+abbrev pub stageAfter : ℕ → ℕ
+stageAfter line = cond (eqb line sheetLines) 1 0
 
 -- spec 10.6: a refused sheet ends all; n is how many bytes the line took
 abbrev pub onCheck : State → ℕ → Settings → SettingsCheck → Said
 onCheck q n st (SettingsCheck.Refused cause line) = record { state = stopped q n; text = refusedLine cause line }
 onCheck q n st SettingsCheck.Accepted =
     record {
-      state = record { phase = phaseAfter (q .line); line = q .line + 1; long = false; taken = q .taken + n; settings = st; board = q .board };
+      state = record { stage = stageAfter (q .line); line = q .line + 1; overlong = false; taken = q .taken + n; settings = st; board = q .board };
       text = [];
     }
 
@@ -49,19 +49,19 @@ abbrev pub onRead : State → ℕ → LineRead → Said
 onRead q n r = onCheck q n (r .settings) (r .check)
 
 abbrev pub sheetLine : State → List ℕ → Said
-sheetLine q l = onRead q (length l + 1) (onLine (q .line - 1) (q .settings) (numbersIn (q .long) (formAt (q .line - 1)) l))
+sheetLine q l = onRead q (length l + 1) (onLine (q .line - 1) (q .settings) (lineNumbers (q .overlong) (formAt (q .line - 1)) l))
 
 -- ---- the sample lines
 
 abbrev pub onStepped : State → ℕ → Stepped → Said
 onStepped q n r =
     record {
-      state = record { phase = 1; line = q .line + 1; long = false; taken = q .taken + n; settings = q .settings; board = r .board };
+      state = record { stage = 1; line = q .line + 1; overlong = false; taken = q .taken + n; settings = q .settings; board = r .board };
       text = answerLine (q .line) (r .answer);
     }
 
 abbrev pub sampleLine : Equipment → State → List ℕ → Said
-sampleLine e q l = onStepped q (length l + 1) (onSampleNumbers e (q .settings) (q .board) (numbersIn (q .long) sampleForm l))
+sampleLine e q l = onStepped q (length l + 1) (onSampleNumbers e (q .settings) (q .board) (lineNumbers (q .overlong) sampleForm l))
 
 -- ---- every line
 
@@ -78,7 +78,7 @@ isSome (b ∷ s) = true
 unfoldable pub endText : State → List ℕ → List ℕ
 endText q l =
     cond (isDone q) []
-    (cond (readsSheet q) (refusedLine Form (q .line)) (cond (q .long || isSome l) (refusedLine Sample (q .line)) []))
+    (cond (readsSheet q) (refusedLine Form (q .line)) (cond (q .overlong || isSome l) (refusedLine Sample (q .line)) []))
 
 -- what is written from a state on, for the lines of all the input that is left
 unfoldable pub following : Equipment → State → List Line → List ℕ

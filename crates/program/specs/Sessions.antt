@@ -22,7 +22,7 @@ pub record Session : Type 0 where
   pub text : List ℕ
 
 -- the bytes that come before a call, and the size of the buffer lent to it
-pub record Call : Type 0 where
+pub record Delivery : Type 0 where
   pub bytes : List ℕ
   pub size : ℕ
 
@@ -30,8 +30,8 @@ abbrev pub opened : Session
 opened = record { state = start; left = []; text = [] }
 
 -- a call with what the one before left and the bytes that have come since
-abbrev pub called : Equipment → Bool → Session → Call → Session
-called e last k c =
+abbrev pub delivered : Equipment → Bool → Session → Delivery → Session
+delivered e last k c =
     let r = respondOf e (k .state) (k .left ++ c .bytes) last (c .size) in
     record {
       state = r .state;
@@ -40,23 +40,23 @@ called e last k c =
     }
 
 -- while input comes
-unfoldable pub during : Equipment → Session → List Call → Session
+unfoldable pub during : Equipment → Session → List Delivery → Session
 during e k [] = k
-during e k (c ∷ cs) = during e (called e false k c) cs
+during e k (c ∷ cs) = during e (delivered e false k c) cs
 
 -- when it has ended: calls with the sizes of the buffers lent to them and no new bytes (new bytes that come with the news of the end
 -- are those of a call before, with a buffer of size 0)
 unfoldable pub ending : Equipment → Session → List ℕ → Session
 ending e k [] = k
-ending e k (size ∷ sizes) = ending e (called e true k (record { bytes = []; size = size })) sizes
+ending e k (size ∷ sizes) = ending e (delivered e true k (record { bytes = []; size = size })) sizes
 
 -- the input that the calls were given
-unfoldable pub joined : List Call → List ℕ
+unfoldable pub joined : List Delivery → List ℕ
 joined [] = []
 joined (c ∷ cs) = c .bytes ++ joined cs
 
 -- its first 10^12 bytes
-abbrev pub cut : List Call → List ℕ
+abbrev pub cut : List Delivery → List ℕ
 cut cs = take inputEnd (joined cs)
 
 -- the bytes of a block that a call takes, and those that it leaves
@@ -73,14 +73,14 @@ Roomy (size ∷ sizes) = (lineRoom ≤ size) × Roomy sizes
 
 -- however an input is cut, and whatever buffers are lent: once all is done, what was written is the input's transcript
 pub record TranscriptLaw (e : Equipment) : Type 0 where
-  pub done : (cs : List Call) (sizes : List ℕ) → isDone (ending e (during e opened cs) sizes .state) ≡ true
+  pub done : (cs : List Delivery) (sizes : List ℕ) → isDone (ending e (during e opened cs) sizes .state) ≡ true
       → ending e (during e opened cs) sizes .text ≡ transcript e (joined cs)
   -- all is done after as many calls with room for a line as there are bytes left, and one
-  pub ends : (cs : List Call) (sizes : List ℕ) → Roomy sizes → length (during e opened cs .left) < length sizes
+  pub ends : (cs : List Delivery) (sizes : List ℕ) → Roomy sizes → length (during e opened cs .left) < length sizes
       → isDone (ending e (during e opened cs) sizes .state) ≡ true
   -- every state that calls lead to, while input comes (no sizes) or when it has ended, is a sensible one, so that what is said below of
   -- a sensible state is said of it
-  pub reached : (cs : List Call) (sizes : List ℕ) → sensible (ending e (during e opened cs) sizes .state) ≡ true
+  pub reached : (cs : List Delivery) (sizes : List ℕ) → sensible (ending e (during e opened cs) sizes .state) ≡ true
   -- a call whose buffer has no room for a line writes nothing and takes nothing, at the input's end too: the state stays as it is
   pub idle : (q : State) (block : List ℕ) (last : Bool) (size : ℕ) → sensible q ≡ true → size < lineRoom
       → (respondOf e q block last size .text ≡ []) × (respondOf e q block last size .state ≡ q)
@@ -95,20 +95,20 @@ pub record TranscriptLaw (e : Equipment) : Type 0 where
       → (hasFeed (leftOf e q block last size) ≡ false) × (length (leftOf e q block last size) ≤ longest)
   -- among the samples a call writes the answers to the lines that it takes, then and there; a begun line that is dropped, it being
   -- longer than any form, has its answer when it ends
-  pub answers : (q : State) (block : List ℕ) (last : Bool) (size : ℕ) → sensible q ≡ true → q .phase ≡ 1 → q .long ≡ false
-      → respondOf e q block last size .state .long ≡ false
+  pub answers : (q : State) (block : List ℕ) (last : Bool) (size : ℕ) → sensible q ≡ true → q .stage ≡ 1 → q .overlong ≡ false
+      → respondOf e q block last size .state .overlong ≡ false
       → respondOf e q block last size .text ≡ answersFrom e (q .settings) (q .board) (q .line) (linesIn (takenOf e q block last size))
   -- once the sheet is read, or all is done, and where no begun line is dropped: what was written is the transcript of the bytes that were
   -- taken. So the call that takes the sheet's last line answers the samples that it takes after it, then and there, too
-  pub written : (cs : List Call) (sizes : List ℕ) → 1 ≤ ending e (during e opened cs) sizes .state .phase
-      → ending e (during e opened cs) sizes .state .long ≡ false
+  pub written : (cs : List Delivery) (sizes : List ℕ) → 1 ≤ ending e (during e opened cs) sizes .state .stage
+      → ending e (during e opened cs) sizes .state .overlong ≡ false
       → ending e (during e opened cs) sizes .text ≡ transcript e (take (ending e (during e opened cs) sizes .state .taken) (joined cs))
   -- a refused sheet ends all as soon as its line is known: the refused line has its line feed, and no whole line is left
-  pub refused : (cs : List Call) (cause : Refusal) (n : ℕ) → readSheet (cut cs) .check ≡ SettingsCheck.Refused cause n
+  pub refused : (cs : List Delivery) (cause : Refusal) (n : ℕ) → readSheet (cut cs) .check ≡ SettingsCheck.Refused cause n
       → hasFeed (drop (readSheet (cut cs) .start) (cut cs)) ≡ true → hasFeed (during e opened cs .left) ≡ false
       → isDone (during e opened cs .state) ≡ true
   -- before the input's end, what was written begins its transcript, whatever comes
-  pub begins : (cs : List Call) (more : List ℕ)
+  pub begins : (cs : List Delivery) (more : List ℕ)
       → transcript e (joined cs ++ more) ≡ during e opened cs .text ++ drop (length (during e opened cs .text)) (transcript e (joined cs ++ more))
   -- all done before the input's end: nothing that comes would add to it
-  pub early : (cs : List Call) (more : List ℕ) → isDone (during e opened cs .state) ≡ true → transcript e (joined cs ++ more) ≡ during e opened cs .text
+  pub early : (cs : List Delivery) (more : List ℕ) → isDone (during e opened cs .state) ≡ true → transcript e (joined cs ++ more) ≡ during e opened cs .text

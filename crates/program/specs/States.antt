@@ -13,18 +13,23 @@ use Rattle.program.specs.declared.State.{State}
 
 -- before the first byte
 unfoldable pub start : State
-start = record { phase = 0; line = 1; long = false; taken = 0; settings = settingsOf []; board = fresh }
+start = record { stage = 0; line = 1; overlong = false; taken = 0; settings = settingsOf []; board = fresh }
 
 abbrev pub isDone : State → Bool
-isDone q = leb 2 (q .phase)
+isDone q = leb 2 (q .stage)
 
 abbrev pub readsSheet : State → Bool
-readsSheet q = eqb (q .phase) 0
+readsSheet q = eqb (q .stage) 0
 
 -- the state with n bytes more taken and all done
 abbrev pub stopped : State → ℕ → State
 stopped q n =
-    record { phase = 2; line = q .line; long = false; taken = q .taken + n; settings = q .settings; board = q .board }
+    record { stage = 2; line = q .line; overlong = false; taken = q .taken + n; settings = q .settings; board = q .board }
+
+-- the state with n bytes more of its line taken and dropped, the line being longer than any form
+abbrev pub dropping : State → ℕ → State
+dropping q n =
+    record { stage = q .stage; line = q .line; overlong = true; taken = q .taken + n; settings = q .settings; board = q .board }
 
 -- a test of a state's counts, necessary and not sufficient for some input to lead to it: no more than the input's 10^12 bytes are taken,
 -- each line before this one took a byte, and a sheet has thirteen lines

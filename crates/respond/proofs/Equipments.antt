@@ -13,7 +13,7 @@ use Rattle.rules.specs.declared.Settings.{Settings}
 use Rattle.rules.specs.declared.Board.{Board}
 use Rattle.claims.specs.Alike.{Alike}
 use Rattle.laws.proofs.Alike.{step-alike}
-use Rattle.program.specs.Saying.{Said, numbersIn, said}
+use Rattle.program.specs.Saying.{Said, lineNumbers, said}
 use Rattle.program.specs.Responses.{handled, stops, andSaid}
 use Rattle.program.specs.declared.State.{State}
 use Rattle.respond.specs.Carrying.{Carried}
@@ -26,7 +26,7 @@ module _ (e f : Equipment) (a : Alike e f) where
 
   said-alike : (q : State) (l : List ℕ) → said e q l ≡ said f q l
   unfolding said
-  said-alike q l = rw (numbers-alike (q .settings) (q .board) (numbersIn (q .long) sampleForm l))
+  said-alike q l = rw (numbers-alike (q .settings) (q .board) (lineNumbers (q .overlong) sampleForm l))
 
   handled-alike : (ends : Bool) (size : ℕ) (h : Said) (ls : List Line) → handled e ends size h ls ≡ handled f ends size h ls
   unfolding handled

@@ -21,11 +21,11 @@ use Rattle.buffers.proofs.Writing.{and-then}
 use Rattle.text.specs.Lines.{readThen, sampleAt}
 use Rattle.text.specs.declared.SampleAt.{SampleAt}
 use Rattle.program.specs.States.{Fit}
-use Rattle.program.specs.Saying.{Said, numbersIn, said}
+use Rattle.program.specs.Saying.{Said, lineNumbers, said}
 use Rattle.program.specs.Responses.{lineRoom, handled}
 use Rattle.program.specs.declared.State.{State}
 use Rattle.program.proofs.Handling.{handled-fed}
-use Rattle.respond.specs.SampleLines.{withoutNumbers, withNumbers, formlessAt, lineAt, answerTo}
+use Rattle.respond.specs.SampleLines.{lineWithout, lineWith, formlessFrom, lineFrom, lineAnswer}
 use Rattle.respond.specs.Carrying.{Stands, Carried, Stuck}
 use Rattle.respond.specs.declared.sample_lines.LineAt.{LineAt}
 use Rattle.respond.specs.declared.state.Handled.{Handled}
@@ -35,40 +35,40 @@ use Rattle.respond.proofs.SheetLines.{after-place, next-stands}
 -- ---- the line at a place
 
 module _ (s : List ℕ) (at end : ℕ) (place : end ≡ at + length (firstLine (drop at s))) (ended : ltb end (length s) ≡ hasFeed (drop at s)) where
-  pub formless-ended : end < length s → withoutNumbers true (end + 1) ≡ formlessAt (drop at s) at
+  pub formless-ended : end < length s → lineWithout true (end + 1) ≡ formlessFrom (drop at s) at
   formless-ended h =
       let f : hasFeed (drop at s) ≡ true = sym ended ∙ lt-ltb end (length s) h in rw (f, place)
 
-  pub formless-open : length s ≤ end → withoutNumbers false at ≡ formlessAt (drop at s) at
+  pub formless-open : length s ≤ end → lineWithout false at ≡ formlessFrom (drop at s) at
   formless-open h =
       let f : hasFeed (drop at s) ≡ false = sym ended ∙ le-ltb end (length s) h in rw f
 
-pub long-line : (t : List ℕ) (at : ℕ) → formlessAt t at ≡ lineAt true t at
-unfolding lineAt
+pub long-line : (t : List ℕ) (at : ℕ) → formlessFrom t at ≡ lineFrom true t at
+unfolding lineFrom
 long-line t at = refl
 
 found-by : (b : Bool) (o : Option (List ℤ)) (at n : ℕ) → readThen (cond b o none) at n .found ≡ true
-    → record { ended = true; found = true; next = readThen (cond b o none) at n .next; slice = readThen (cond b o none) at n .slice } ≡ cond b (withNumbers n o) (withoutNumbers false at)
+    → record { ended = true; found = true; next = readThen (cond b o none) at n .next; slice = readThen (cond b o none) at n .slice } ≡ cond b (lineWith n o) (lineWithout false at)
 found-by true none at n f = absurd (false≢true f)
 found-by true (some ns) at n f = refl
 found-by false o at n f = absurd (false≢true f)
 
 pub found-line : (s : List ℕ) (at : ℕ) (x : SampleAt) → x ≡ sampleAt s at → x .found ≡ true
-    → record { ended = true; found = true; next = x .next; slice = x .slice } ≡ lineAt false (drop at s) at
-unfolding lineAt sampleAt
+    → record { ended = true; found = true; next = x .next; slice = x .slice } ≡ lineFrom false (drop at s) at
+unfolding lineFrom sampleAt
 found-line s at x e f =
     let t = drop at s in
     let n = at + length (firstLine t) + 1 in
     rw e (found-by (hasFeed t) (numbersOf sampleForm (firstLine t)) at n (sym (ap (λ (k : SampleAt). k .found) e) ∙ f))
 
 missed-by : (b : Bool) (o : Option (List ℤ)) (at n : ℕ) → readThen (cond b o none) at n .found ≡ false
-    → cond b (withoutNumbers true n) (withoutNumbers false at) ≡ cond b (withNumbers n o) (withoutNumbers false at)
+    → cond b (lineWithout true n) (lineWithout false at) ≡ cond b (lineWith n o) (lineWithout false at)
 missed-by true none at n f = refl
 missed-by true (some ns) at n f = absurd (false≢true (sym f))
 missed-by false o at n f = refl
 
-pub missed-line : (s : List ℕ) (at : ℕ) (x : SampleAt) → x ≡ sampleAt s at → x .found ≡ false → formlessAt (drop at s) at ≡ lineAt false (drop at s) at
-unfolding lineAt sampleAt
+pub missed-line : (s : List ℕ) (at : ℕ) (x : SampleAt) → x ≡ sampleAt s at → x .found ≡ false → formlessFrom (drop at s) at ≡ lineFrom false (drop at s) at
+unfolding lineFrom sampleAt
 missed-line s at x e f =
     let t = drop at s in
     missed-by (hasFeed t) (numbersOf sampleForm (firstLine t)) at (at + length (firstLine t) + 1) (sym (ap (λ (k : SampleAt). k .found) e) ∙ f)
@@ -77,24 +77,24 @@ missed-line s at x e f =
 
 -- the state while samples are read, from h on
 abbrev pub sampled : Handled → Board → ℕ → Bool → ℕ → State
-sampled h b n long at =
-    record { phase = 1; line = n; long = long; taken = h .state .taken + (at - h .at); settings = h .state .settings; board = b }
+sampled h b n overlong at =
+    record { stage = 1; line = n; overlong = overlong; taken = h .state .taken + (at - h .at); settings = h .state .settings; board = b }
 
 abbrev pub here : Handled → Board → ℕ → Bool → ℕ → ℕ → Handled
-here h b n long at w = record { state = sampled h b n long at; at = at; written = w }
+here h b n overlong at w = record { state = sampled h b n overlong at; at = at; written = w }
 
 pub record Going (e : Equipment) (s d : List ℕ) (h : Handled) (d′ : List ℕ) (r : Handled) (going : Bool) : Type 0 where
   pub carried : Carried e s d h d′ r
   pub stuck : going ≡ false → Stuck s d r
 
-sampled-self : (h : Handled) → h .state .phase ≡ 1 → sampled h (h .state .board) (h .state .line) (h .state .long) (h .at) ≡ h .state
+sampled-self : (h : Handled) → h .state .stage ≡ 1 → sampled h (h .state .board) (h .state .line) (h .state .overlong) (h .at) ≡ h .state
 sampled-self h p =
     let q = h .state in
     let z : q .taken + (h .at - h .at) ≡ q .taken = omega arith in
-    ap₂ (λ (a b : ℕ). record { phase = a; line = q .line; long = q .long; taken = b; settings = q .settings; board = q .board }) (sym p) z
+    ap₂ (λ (a b : ℕ). record { stage = a; line = q .line; overlong = q .overlong; taken = b; settings = q .settings; board = q .board }) (sym p) z
 
-pub beginning : (e : Equipment) (s d : List ℕ) (h : Handled) → h .state .phase ≡ 1 → Fit (h .state) (length s - h .at) → h .at ≤ length s → h .written ≤ length d
-    → Going e s d h d (here h (h .state .board) (h .state .line) (h .state .long) (h .at) (h .written)) true
+pub beginning : (e : Equipment) (s d : List ℕ) (h : Handled) → h .state .stage ≡ 1 → Fit (h .state) (length s - h .at) → h .at ≤ length s → h .written ≤ length d
+    → Going e s d h d (here h (h .state .board) (h .state .line) (h .state .overlong) (h .at) (h .written)) true
 beginning e s d h p fit inside room =
     record {
       carried = record {
@@ -106,25 +106,25 @@ beginning e s d h p fit inside room =
       stuck = λ e. absurd (false≢true (sym e));
     }
 
-module _ (e : Equipment) (s d : List ℕ) (h : Handled) (d′ : List ℕ) (b : Board) (n : ℕ) (long : Bool) (at w : ℕ)
-    (going : Going e s d h d′ (here h b n long at w) true) (x : LineAt) (is : x ≡ lineAt long (drop at s) at) where
+module _ (e : Equipment) (s d : List ℕ) (h : Handled) (d′ : List ℕ) (b : Board) (n : ℕ) (overlong : Bool) (at w : ℕ)
+    (going : Going e s d h d′ (here h b n overlong at w) true) (x : LineAt) (is : x ≡ lineFrom overlong (drop at s) at) where
   abbrev line : List ℕ
   line = firstLine (drop at s)
 
   abbrev q : State
-  q = sampled h b n long at
+  q = sampled h b n overlong at
 
   ended-is : x .ended ≡ hasFeed (drop at s)
-  unfolding lineAt
-  ended-is = ap (λ (k : LineAt). k .ended) is ∙ by (hasFeed (drop at s)) (numbersIn long sampleForm line)
+  unfolding lineFrom
+  ended-is = ap (λ (k : LineAt). k .ended) is ∙ by (hasFeed (drop at s)) (lineNumbers overlong sampleForm line)
     where
-      by : (f : Bool) (o : Option (List ℤ)) → cond f (withNumbers (at + length line + 1) o) (withoutNumbers false at) .ended ≡ f
+      by : (f : Bool) (o : Option (List ℤ)) → cond f (lineWith (at + length line + 1) o) (lineWithout false at) .ended ≡ f
       by true none = refl
       by true (some ns) = refl
       by false o = refl
 
   -- no line more, or no room for one
-  pub stops : (x .ended && leb lineRoom (length d′ - w)) ≡ false → Going e s d h d′ (here h b n long at w) false
+  pub stops : (x .ended && leb lineRoom (length d′ - w)) ≡ false → Going e s d h d′ (here h b n overlong at w) false
   stops full = record { carried = going .carried; stuck = λ p busy room. sym ended-is ∙ by (x .ended) full room }
     where
       by : (k : Bool) → (k && leb lineRoom (length d′ - w)) ≡ false → w + lineRoom ≤ length d → k ≡ false
@@ -143,25 +143,25 @@ module _ (e : Equipment) (s d : List ℕ) (h : Handled) (d′ : List ℕ) (b : B
     pub room : w + lineRoom ≤ length d′
     room = omega (arith, fed-room (x .ended) fits .1)
 
-    line-is : x ≡ withNumbers (at + length line + 1) (numbersIn long sampleForm line)
-    unfolding lineAt
+    line-is : x ≡ lineWith (at + length line + 1) (lineNumbers overlong sampleForm line)
+    unfolding lineFrom
     line-is = is ∙ rw fed
 
     pub next-is : x .next ≡ at + length line + 1
-    next-is = ap (λ (k : LineAt). k .next) line-is ∙ by (numbersIn long sampleForm line)
+    next-is = ap (λ (k : LineAt). k .next) line-is ∙ by (lineNumbers overlong sampleForm line)
       where
-        by : (o : Option (List ℤ)) → withNumbers (at + length line + 1) o .next ≡ at + length line + 1
+        by : (o : Option (List ℤ)) → lineWith (at + length line + 1) o .next ≡ at + length line + 1
         by none = refl
         by (some ns) = refl
 
-    answer-is : onSampleNumbers e (h .state .settings) b (numbersIn long sampleForm line) ≡ answerTo e b (h .state .settings) x
-    answer-is = rw line-is (by (numbersIn long sampleForm line))
+    answer-is : onSampleNumbers e (h .state .settings) b (lineNumbers overlong sampleForm line) ≡ lineAnswer e b (h .state .settings) x
+    answer-is = rw line-is (by (lineNumbers overlong sampleForm line))
       where
-        by : (o : Option (List ℤ)) → onSampleNumbers e (h .state .settings) b o ≡ answerTo e b (h .state .settings) (withNumbers (at + length line + 1) o)
+        by : (o : Option (List ℤ)) → onSampleNumbers e (h .state .settings) b o ≡ lineAnswer e b (h .state .settings) (lineWith (at + length line + 1) o)
         by none = refl
         by (some ns) = refl
 
-    module _ (r : Stepped) (step : r ≡ answerTo e b (h .state .settings) x) where
+    module _ (r : Stepped) (step : r ≡ lineAnswer e b (h .state .settings) x) where
       said-is : said e q line ≡ record { state = sampled h (r .board) (n + 1) false (x .next); text = answerLine n (r .answer) }
       unfolding said
       said-is =

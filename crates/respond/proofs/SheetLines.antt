@@ -67,7 +67,7 @@ line-lent s at end p =
     let n : end - at ≡ length (firstLine (drop at s)) = omega arith in
     ap (λ (k : ℕ). take k (drop at s)) n ∙ line-take (drop at s)
 
-module _ (q : State) (s : List ℕ) (state : State) (at end : ℕ) (going : Going q s state at) (sheet : state .phase ≡ 0)
+module _ (q : State) (s : List ℕ) (state : State) (at end : ℕ) (going : Going q s state at) (sheet : state .stage ≡ 0)
     (place : end ≡ at + length (firstLine (drop at s))) (ended : ltb end (length s) ≡ hasFeed (drop at s)) where
   busy : isDone state ≡ false
   busy = ap (leb 2) sheet
@@ -92,7 +92,7 @@ module _ (q : State) (s : List ℕ) (state : State) (at end : ℕ) (going : Goin
 
     said-is : (e : Equipment) → said e state (firstLine (drop at s)) ≡ record { state = next; text = checkText check }
     unfolding said
-    said-is e = rw (busy, eq-eqb (state .phase) 0 sheet) (ap (sheetLine state) (sym (line-lent s at end place)) ∙ is)
+    said-is e = rw (busy, eq-eqb (state .stage) 0 sheet) (ap (sheetLine state) (sym (line-lent s at end place)) ∙ is)
 
     -- no equipment has a part in a sheet's line, so any will do
     step-stands : Stands s q 0 next (end + 1)
@@ -111,18 +111,18 @@ module _ (q : State) (s : List ℕ) (state : State) (at end : ℕ) (going : Goin
         ∙ handled-fed e ends size (record { state = state; text = [] }) (drop at s) fed
         ∙ rw (busy, le-ltb size lineRoom r, said-is e, after-place s at fed, p)
 
-    pub refused : (cause : Refusal) (n : ℕ) → check ≡ SettingsCheck.Refused cause n → next .phase ≡ 2 → SheetSaid q s (record { state = next; at = end + 1; check = check })
+    pub refused : (cause : Refusal) (n : ℕ) → check ≡ SettingsCheck.Refused cause n → next .stage ≡ 2 → SheetSaid q s (record { state = next; at = end + 1; check = check })
     refused cause n c two =
         record {
           stands = step-stands;
           same = step-same;
-          stuck = λ p. let z = eqb-true (next .phase) 0 p in absurd (omega arith);
+          stuck = λ p. let z = eqb-true (next .stage) 0 p in absurd (omega arith);
         }
 
     pub goes-on : check ≡ SettingsCheck.Accepted → Going q s next (end + 1)
     goes-on c =
         record { stands = step-stands; same = λ e size r ends. step-same e size r ends ∙ rw c }
 
-pub past : (q : State) (s : List ℕ) (state : State) (at : ℕ) → Going q s state at → (state .phase ≡ 0 → ⊥) → SheetSaid q s (record { state = state; at = at; check = SettingsCheck.Accepted })
+pub past : (q : State) (s : List ℕ) (state : State) (at : ℕ) → Going q s state at → (state .stage ≡ 0 → ⊥) → SheetSaid q s (record { state = state; at = at; check = SettingsCheck.Accepted })
 past q s state at going other =
-    record { stands = going .stands; same = going .same; stuck = λ p. absurd (other (eqb-true (state .phase) 0 p)) }
+    record { stands = going .stands; same = going .same; stuck = λ p. absurd (other (eqb-true (state .stage) 0 p)) }

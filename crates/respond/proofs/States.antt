@@ -5,6 +5,7 @@ use mathlib.Core.Bool.{true, false}
 use Prim.Native.Nat.{_+_, _≤_, _<_}
 use borrow.Author.Tests.{le-leb, lt-leb, ne-eqb}
 use lib.Dec.{leb}
+use Rattle.rules.specs.Settings.{sheetLines}
 use Rattle.rules.specs.Transcripts.{inputEnd}
 use Rattle.program.specs.States.{sensible}
 use Rattle.program.specs.declared.State.{State}
@@ -25,10 +26,10 @@ module _ (q : State) where
       ahead h = rw (le-leb 1 (q .line) a, le-leb (q .taken) inputEnd b, lt-leb (q .line) (q .taken + 1) h)
 
       module _ (l : q .line ≤ q .taken + 1) where
-        pub in-sheet : q .phase ≡ 0 → leb (q .line) 13 ≡ sensible q
+        pub in-sheet : q .stage ≡ 0 → leb (q .line) sheetLines ≡ sensible q
         unfolding sensible
         in-sheet p = rw (le-leb 1 (q .line) a, le-leb (q .taken) inputEnd b, le-leb (q .line) (q .taken + 1) l, p)
 
-        pub past-sheet : (q .phase ≡ 0 → ⊥) → true ≡ sensible q
+        pub past-sheet : (q .stage ≡ 0 → ⊥) → true ≡ sensible q
         unfolding sensible
-        past-sheet p = rw (le-leb 1 (q .line) a, le-leb (q .taken) inputEnd b, le-leb (q .line) (q .taken + 1) l, ne-eqb (q .phase) 0 p)
+        past-sheet p = rw (le-leb 1 (q .line) a, le-leb (q .taken) inputEnd b, le-leb (q .line) (q .taken + 1) l, ne-eqb (q .stage) 0 p)

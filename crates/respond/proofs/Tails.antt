@@ -12,25 +12,25 @@ use Rattle.rules.specs.Samples.{Equipment}
 use Rattle.rules.specs.Transcripts.{linesIn, refusedLine}
 use Rattle.rules.specs.declared.Refusal.the-variants.{Form, Sample}
 use Rattle.buffers.specs.Written.{Wrote}
-use Rattle.program.specs.States.{isDone, stopped}
+use Rattle.program.specs.States.{isDone, stopped, dropping}
 use Rattle.program.specs.Saying.{isSome, endText}
 use Rattle.program.specs.Responses.{longest, lineRoom, atTail, handled}
 use Rattle.program.specs.declared.State.{State}
 use Rattle.program.proofs.Handling.{handled-unfed, handled-stops}
-use Rattle.respond.specs.Carrying.{droppedState, Stuck, Closed}
+use Rattle.respond.specs.Carrying.{Stuck, Closed}
 use Rattle.respond.specs.declared.state.Handled.{Handled}
 use Rattle.respond.proofs.Buffers.{wrote-none}
 
 -- ---- the text at the input's end
 
 module _ (q : State) (l : List ℕ) where
-  pub end-sheet : q .phase ≡ 0 → refusedLine Form (q .line) ≡ endText q l
+  pub end-sheet : q .stage ≡ 0 → refusedLine Form (q .line) ≡ endText q l
   unfolding endText
   end-sheet p = rw p
 
-  pub end-done : 2 ≤ q .phase → [] ≡ endText q l
+  pub end-done : 2 ≤ q .stage → [] ≡ endText q l
   unfolding endText
-  end-done p = rw (le-leb 2 (q .phase) p)
+  end-done p = rw (le-leb 2 (q .stage) p)
 
   some-is : isSome l ≡ ltb 0 (length l)
   some-is = by l
@@ -39,15 +39,15 @@ module _ (q : State) (l : List ℕ) where
       by [] = refl
       by (b ∷ k) = sym (lt-ltb 0 (length (b ∷ k)) (omega arith))
 
-  module _ (other : q .phase ≡ 0 → ⊥) (low : q .phase < 2) where
-    end-by : (b : Bool) → (q .long || ltb 0 (length l)) ≡ b → cond b (refusedLine Sample (q .line)) [] ≡ endText q l
+  module _ (other : q .stage ≡ 0 → ⊥) (low : q .stage < 2) where
+    end-by : (b : Bool) → (q .overlong || ltb 0 (length l)) ≡ b → cond b (refusedLine Sample (q .line)) [] ≡ endText q l
     unfolding endText
-    end-by b e = rw (lt-leb 2 (q .phase) low, ne-eqb (q .phase) 0 other, some-is, e)
+    end-by b e = rw (lt-leb 2 (q .stage) low, ne-eqb (q .stage) 0 other, some-is, e)
 
-    pub end-sample : (q .long || ltb 0 (length l)) ≡ true → refusedLine Sample (q .line) ≡ endText q l
+    pub end-sample : (q .overlong || ltb 0 (length l)) ≡ true → refusedLine Sample (q .line) ≡ endText q l
     end-sample e = end-by true e
 
-    pub end-none : (q .long || ltb 0 (length l)) ≡ false → [] ≡ endText q l
+    pub end-none : (q .overlong || ltb 0 (length l)) ≡ false → [] ≡ endText q l
     end-none e = end-by false e
 
 -- ---- the tail
@@ -65,9 +65,9 @@ module _ (e : Equipment) (ends : Bool) (s d : List ℕ) (h : Handled) (inside : 
         all = λ before l. f before l ∙ ap (λ (t : List ℕ). record { state = h .state; text = t }) (sym (append-nil before));
       }
 
-  pub done-stays : 2 ≤ h .state .phase → Closed e ends s d h d h
+  pub done-stays : 2 ≤ h .state .stage → Closed e ends s d h d h
   done-stays p =
-      stays (λ before l. handled-stops e ends (length d) (record { state = h .state; text = before }) (linesIn (drop (h .at) s)) (rw (le-leb 2 (h .state .phase) p)))
+      stays (λ before l. handled-stops e ends (length d) (record { state = h .state; text = before }) (linesIn (drop (h .at) s)) (rw (le-leb 2 (h .state .stage) p)))
 
   or-true : (a : Bool) → (a || true) ≡ true
   or-true true = refl
@@ -77,9 +77,9 @@ module _ (e : Equipment) (ends : Bool) (s d : List ℕ) (h : Handled) (inside : 
   full-stays p =
       stays (λ before l. handled-stops e ends (length d) (record { state = h .state; text = before }) (linesIn (drop (h .at) s)) (rw (lt-ltb (length d) (length before + lineRoom) (omega arith)) (or-true (isDone (h .state)))))
 
-  module _ (low : h .state .phase < 2) (free : h .written + lineRoom ≤ length d) (stuck : Stuck s d h) where
+  module _ (low : h .state .stage < 2) (free : h .written + lineRoom ≤ length d) (stuck : Stuck s d h) where
     going : isDone (h .state) ≡ false
-    going = lt-leb 2 (h .state .phase) low
+    going = lt-leb 2 (h .state .stage) low
 
     abbrev rest : List ℕ
     rest = drop (h .at) s
@@ -104,17 +104,17 @@ module _ (e : Equipment) (ends : Bool) (s d : List ℕ) (h : Handled) (inside : 
           all = λ before l. tail-is before l ∙ rw (p, is, rest-length);
         }
 
-    pub drops : ends ≡ false → (h .state .long || ltb longest (length s - h .at)) ≡ true → (next : State) → next ≡ droppedState (h .state) (length s - h .at)
+    pub drops : ends ≡ false → (h .state .overlong || ltb longest (length s - h .at)) ≡ true → (next : State) → next ≡ dropping (h .state) (length s - h .at)
         → Closed e ends s d h d (record { state = next; at = length s; written = h .written })
-    drops p long next is =
+    drops p overlong next is =
         record {
           later = inside;
           inside = omega arith;
           taken = ap (λ (k : State). k .taken) is;
           text = [];
           wrote = wrote-none d (h .written) full;
-          all = λ before l. tail-is before l ∙ rw (p, rest-length, long, is, append-nil before);
+          all = λ before l. tail-is before l ∙ rw (p, rest-length, overlong, is, append-nil before);
         }
 
-    pub waits : ends ≡ false → (h .state .long || ltb longest (length s - h .at)) ≡ false → Closed e ends s d h d h
+    pub waits : ends ≡ false → (h .state .overlong || ltb longest (length s - h .at)) ≡ false → Closed e ends s d h d h
     waits p short = stays (λ before l. tail-is before l ∙ rw (p, rest-length, short))

@@ -44,7 +44,7 @@ sheet-carried e q s d d′ r w said room wrote =
 -- ---- nothing of the samples yet
 
 pub not-samples : (e : Equipment) (s d : List ℕ) (h : Handled) → h .at ≤ length s → h .written ≤ length d → Fit (h .state) (length s - h .at)
-    → (readsSheet (h .state) ≡ true → hasFeed (drop (h .at) s) ≡ false) → (h .state .phase ≡ 1 → ⊥) → Carried e s d h d h × Stuck s d h
+    → (readsSheet (h .state) ≡ true → hasFeed (drop (h .at) s) ≡ false) → (h .state .stage ≡ 1 → ⊥) → Carried e s d h d h × Stuck s d h
 not-samples e s d h inside room fit waiting other = (
   record {
     stands = record { later = omega arith; inside = inside; taken = omega arith; fit = fit };
@@ -52,13 +52,13 @@ not-samples e s d h inside room fit waiting other = (
     wrote = wrote-none d (h .written) room;
     same = λ before l ends. rw (append-nil before);
   },
-  λ busy free. waiting (eq-eqb (h .state .phase) 0 (low (leb-false 2 (h .state .phase) busy))),
+  λ busy free. waiting (eq-eqb (h .state .stage) 0 (low (leb-false 2 (h .state .stage) busy))),
 )
   where
-    low : h .state .phase < 2 → h .state .phase ≡ 0
-    low p = by (decLe (h .state .phase) 0)
+    low : h .state .stage < 2 → h .state .stage ≡ 0
+    low p = by (decLe (h .state .stage) 0)
       where
-        by : Dec (h .state .phase ≤ 0) → h .state .phase ≡ 0
+        by : Dec (h .state .stage ≤ 0) → h .state .stage ≡ 0
         by (yes z) = omega arith
         by (no z) = absurd (other (omega arith))
 
@@ -148,7 +148,7 @@ module _ (e : Equipment) (q : State) (block : List ℕ) (last : Bool) (fine : se
 
   pub responds : (end : ℕ) → end ≡ min (budget q) (length block) → (ends : Bool) → ends ≡ (last || leb (budget q) (length block)) → (d d′ : List ℕ) (r : Handled)
       → Closed e ends (take (end - 0) (drop 0 block)) d (begun q) d′ r
-      → Responds e q block last d d′ (record { state = r .state; taken = r .at; written = r .written; done = leb 2 (r .state .phase) })
+      → Responds e q block last d d′ (record { state = r .state; taken = r .at; written = r .written; done = leb 2 (r .state .stage) })
   unfolding respondOf
   responds end p ends pe d d′ r c =
       let said : respondOf e q block last (length d) ≡ record { state = r .state; text = c .text }

@@ -22,11 +22,6 @@ abbrev pub checkText : SettingsCheck → List ℕ
 checkText SettingsCheck.Accepted = []
 checkText (SettingsCheck.Refused cause line) = refusedLine cause line
 
--- the state with n bytes of a line longer than any form dropped
-abbrev pub droppedState : State → ℕ → State
-droppedState q n =
-    record { phase = q .phase; line = q .line; long = true; taken = q .taken + n; settings = q .settings; board = q .board }
-
 -- r stands at a place of a block s, and q at one before it
 pub record Stands (s : List ℕ) (q : State) (at₀ : ℕ) (r : State) (at : ℕ) : Type 0 where
   pub later : at₀ ≤ at

@@ -14,25 +14,25 @@ use Rattle.rules.specs.declared.Settings.{Settings}
 use Rattle.rules.specs.declared.Board.{Board}
 use Rattle.rules.specs.declared.Refusal.the-variants.{Sample}
 use Rattle.rules.specs.declared.Stepped.{Stepped}
-use Rattle.program.specs.Saying.{numbersIn}
+use Rattle.program.specs.Saying.{lineNumbers}
 use Rattle.respond.specs.declared.sample_lines.LineAt.{LineAt}
 
-abbrev pub withoutNumbers : Bool → ℕ → LineAt
-withoutNumbers ended next = record { ended = ended; found = false; next = next; slice = replicate 7 0 }
+abbrev pub lineWithout : Bool → ℕ → LineAt
+lineWithout ended next = record { ended = ended; found = false; next = next; slice = replicate 7 0 }
 
-abbrev pub withNumbers : ℕ → Option (List ℤ) → LineAt
-withNumbers next none = withoutNumbers true next
-withNumbers next (some ns) = record { ended = true; found = true; next = next; slice = map natAbs ns }
+abbrev pub lineWith : ℕ → Option (List ℤ) → LineAt
+lineWith next none = lineWithout true next
+lineWith next (some ns) = record { ended = true; found = true; next = next; slice = map natAbs ns }
 
 -- the line that a text begins with, where it has no form
-abbrev pub formlessAt : List ℕ → ℕ → LineAt
-formlessAt s at = cond (hasFeed s) (withoutNumbers true (at + length (firstLine s) + 1)) (withoutNumbers false at)
+abbrev pub formlessFrom : List ℕ → ℕ → LineAt
+formlessFrom s at = cond (hasFeed s) (lineWithout true (at + length (firstLine s) + 1)) (lineWithout false at)
 
 -- the line that a text begins with, the text standing at a place
-unfoldable pub lineAt : Bool → List ℕ → ℕ → LineAt
-lineAt long s at =
-    cond (hasFeed s) (withNumbers (at + length (firstLine s) + 1) (numbersIn long sampleForm (firstLine s))) (withoutNumbers false at)
+unfoldable pub lineFrom : Bool → List ℕ → ℕ → LineAt
+lineFrom overlong s at =
+    cond (hasFeed s) (lineWith (at + length (firstLine s) + 1) (lineNumbers overlong sampleForm (firstLine s))) (lineWithout false at)
 
 -- a step where the line has the sample form, refusal 8 where it has not
-abbrev pub answerTo : Equipment → Board → Settings → LineAt → Stepped
-answerTo e b st x = cond (x .found) (stepOf e b st (x .slice)) (turnedAway b Sample)
+abbrev pub lineAnswer : Equipment → Board → Settings → LineAt → Stepped
+lineAnswer e b st x = cond (x .found) (stepOf e b st (x .slice)) (turnedAway b Sample)

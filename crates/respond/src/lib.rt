@@ -8,12 +8,14 @@ ghost use Rattle.rules.specs.Regions.{ourEquipment};
 ghost use Rattle.rules.specs.Text.{hasFeed};
 ghost use Rattle.program.specs.States.{Fit, readsSheet};
 ghost use Rattle.respond.specs.Carrying.{begun, Carried, Stuck, Closed, Responds};
+ghost use Rattle.program.specs.Responses.{lineRoom, longest};
 
 mod sample_lines;
 mod sheet_lines;
 mod state;
 mod tail;
 
+use rules::LINE_ROOM;
 use lines::put_refused;
 use program::State;
 use rules::SettingsCheck;
@@ -37,7 +39,7 @@ pub struct Responded {
 
 // The sheet's lines of a block, and the line that is written where one is refused.
 fn on_sheet(q: State, s: &[u8], out: &mut [u8]) -> Handled
-    requires { ⌜ (Fit q (length (now s))) × (128 ≤ length (now out)) ⌝ }
+    requires { ⌜ (Fit q (length (now s))) × (lineRoom ≤ length (now out)) ⌝ }
     ensures { λ r. ⌜ ((e : Equipment) → Carried e (now (s .entry)) (now (out .entry)) (begun q) (now (out .exit)) r) ⌝ }
     ensures { λ r. ⌜ (readsSheet (r .state) ≡ true → hasFeed (drop (r .at) (now (s .entry))) ≡ false) ⌝ }
 {
@@ -65,7 +67,7 @@ fn on_samples(h: Handled, s: &[u8], out: &mut [u8]) -> Handled
     ensures { λ r. ⌜ Stuck (now (s .entry)) (now (out .entry)) r ⌝ }
 {
     let state = h.state;
-    if state.phase != 1 {
+    if state.stage != 1 {
         return h;
     }
     let t = table();
@@ -77,7 +79,7 @@ fn handle(q: State, s: &[u8], ends: bool, out: &mut [u8]) -> Handled
     requires { ⌜ Fit q (length (now s)) ⌝ }
     ensures { λ r. ⌜ Closed ourEquipment ends (now (s .entry)) (now (out .entry)) (begun q) (now (out .exit)) r ⌝ }
 {
-    if out.len() < 128 {
+    if out.len() < LINE_ROOM {
         return Handled {
             state: q,
             at: 0,
@@ -106,7 +108,7 @@ pub fn within_budget(bytes: usize, budget: u64) -> usize
 pub fn respond(state: State, block: &[u8], last: bool, out: &mut [u8]) -> Responded
     ensures { λ r. ⌜ Responds ourEquipment state (now (block .entry)) last (now (out .entry)) (now (out .exit)) r ⌝ }
     ensures { λ r. ⌜ (r .taken ≤ length (now (block .entry))) × (r .written ≤ length (now (out .entry))) ⌝ }
-    ensures { λ r. ⌜ (128 ≤ length (now (out .entry)) → r .done ≡ false → r .taken ≡ 0 → length (now (block .entry)) ≤ 128) ⌝ }
+    ensures { λ r. ⌜ (lineRoom ≤ length (now (out .entry)) → r .done ≡ false → r .taken ≡ 0 → length (now (block .entry)) ≤ longest) ⌝ }
 {
     if !sensible(state) {
         return Responded {
@@ -121,11 +123,11 @@ pub fn respond(state: State, block: &[u8], last: bool, out: &mut [u8]) -> Respon
     let ends = either(last, budget <= (block.len() as u64));
     let r = handle(state, &block[0..end], ends, out);
     let next = r.state;
-    let phase = next.phase;
+    let stage = next.stage;
     Responded {
         state: next,
         taken: r.at,
         written: r.written,
-        done: 2 <= phase,
+        done: 2 <= stage,
     }
 }

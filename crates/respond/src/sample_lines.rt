@@ -13,8 +13,9 @@ ghost use Rattle.rules.specs.Transcripts.{answerLine};
 ghost use Rattle.buffers.specs.Written.{Wrote};
 ghost use Rattle.program.specs.States.{Fit};
 ghost use Rattle.program.specs.Responses.{lineRoom};
-ghost use Rattle.respond.specs.SampleLines.{withoutNumbers, formlessAt, lineAt, answerTo};
+ghost use Rattle.respond.specs.SampleLines.{lineWithout, formlessFrom, lineFrom, lineAnswer};
 ghost use Rattle.respond.specs.Carrying.{Carried, Stuck};
+use rules::LINE_ROOM;
 use crate::state::Handled;
 use lines::put_refused;
 use lines::put_report;
@@ -41,7 +42,7 @@ fn accepted(s: Settings) -> bool
 }
 
 fn put_answer(out: &mut [u8], at: usize, answer: Answer, line: u64) -> usize
-    requires { ⌜ at + 128 ≤ length (now out) ⌝ }
+    requires { ⌜ at + lineRoom ≤ length (now out) ⌝ }
     ensures { λ r. ⌜ Wrote (now (out .entry)) at (now (out .exit)) r (answerLine line answer) ⌝ }
 {
     match answer {
@@ -59,7 +60,7 @@ struct LineAt {
 }
 
 fn no_numbers(ended: bool, next: usize) -> LineAt
-    ensures { λ r. ⌜ r ≡ withoutNumbers ended next ⌝ }
+    ensures { λ r. ⌜ r ≡ lineWithout ended next ⌝ }
 {
     let slice = [0u32; 7];
     LineAt {
@@ -73,7 +74,7 @@ fn no_numbers(ended: bool, next: usize) -> LineAt
 // The line at a place, where it has no form.
 fn formless_at(s: &[u8], at: usize) -> LineAt
     requires { ⌜ at ≤ length (now s) ⌝ }
-    ensures { λ r. ⌜ r ≡ formlessAt (drop at (now (s .entry))) at ⌝ }
+    ensures { λ r. ⌜ r ≡ formlessFrom (drop at (now (s .entry))) at ⌝ }
 {
     let end = line_end(s, at);
     if end < s.len() {
@@ -83,11 +84,11 @@ fn formless_at(s: &[u8], at: usize) -> LineAt
 }
 
 // The line at a place; one whose beginning was dropped has no form.
-fn line_at(form: &[u8], long: bool, s: &[u8], at: usize) -> LineAt
+fn line_at(form: &[u8], overlong: bool, s: &[u8], at: usize) -> LineAt
     requires { ⌜ (now form ≡ sampleForm) × (at ≤ length (now s)) ⌝ }
-    ensures { λ r. ⌜ r ≡ lineAt long (drop at (now (s .entry))) at ⌝ }
+    ensures { λ r. ⌜ r ≡ lineFrom overlong (drop at (now (s .entry))) at ⌝ }
 {
-    if long {
+    if overlong {
         return formless_at(s, at);
     }
     let x = sample_at(form, s, at);
@@ -124,7 +125,7 @@ fn refused_settings(b: Board, s: Settings) -> Stepped
 // What a line with or without numbers makes of a board: a step, or the refusal of a line that has not its form.
 fn answer_to(table: &[u16; 4096], fine: bool, b: Board, s: Settings, x: LineAt) -> Stepped
     requires { ⌜ fine ≡ settingsAccepted s ⌝ }
-    ensures { λ r. ⌜ r ≡ answerTo (equippedWith (now (table .entry))) b s x ⌝ }
+    ensures { λ r. ⌜ r ≡ lineAnswer (equippedWith (now (table .entry))) b s x ⌝ }
 {
     if !x.found {
         return Stepped {
@@ -144,14 +145,14 @@ fn fits(ended: bool, room: usize) -> bool
     ensures { λ r. ⌜ r ≡ (ended && leb lineRoom room) ⌝ }
 {
     if ended {
-        return 128 <= room;
+        return LINE_ROOM <= room;
     }
     false
 }
 
 // The sample lines of a block, as many as are there and fit, from a place that the state stands at.
 pub fn sample_lines(table: &[u16; 4096], h: Handled, s: &[u8], out: &mut [u8]) -> Handled
-    requires { ⌜ (h .state .phase ≡ 1) × (Fit (h .state) (length (now s) - h .at)) × (h .at ≤ length (now s)) × (h .written ≤ length (now out)) ⌝ }
+    requires { ⌜ (h .state .stage ≡ 1) × (Fit (h .state) (length (now s) - h .at)) × (h .at ≤ length (now s)) × (h .written ≤ length (now out)) ⌝ }
     ensures { λ r. ⌜ Carried (equippedWith (now (table .entry))) (now (s .entry)) (now (out .entry)) h (now (out .exit)) r ⌝ }
     ensures { λ r. ⌜ Stuck (now (s .entry)) (now (out .entry)) r ⌝ }
 {
@@ -161,12 +162,12 @@ pub fn sample_lines(table: &[u16; 4096], h: Handled, s: &[u8], out: &mut [u8]) -
     let form = sample_form();
     let mut board = q.board;
     let mut line = q.line;
-    let mut long = q.long;
+    let mut overlong = q.overlong;
     let mut at = h.at;
     let mut w = h.written;
     let mut going = true;
     while going {
-        let x = line_at(&form, long, s, at);
+        let x = line_at(&form, overlong, s, at);
         going = fits(x.ended, out.len() - w);
         if going {
             let r = answer_to(table, fine, board, settings, x);
@@ -174,14 +175,14 @@ pub fn sample_lines(table: &[u16; 4096], h: Handled, s: &[u8], out: &mut [u8]) -
             board = r.board;
             w = put_answer(out, w, answer, line);
             at = x.next;
-            long = false;
+            overlong = false;
             line += 1;
         }
     }
     let state = State {
-        phase: 1,
+        stage: 1,
         line,
-        long,
+        overlong,
         taken: q.taken + ((at - h.at) as u64),
         settings,
         board,

@@ -7,8 +7,10 @@ ghost use Rattle.rules.specs.declared.SettingsCheck.{SettingsCheck};
 ghost use Rattle.formats.specs.Marks.{formAt};
 ghost use Rattle.sheet.specs.Storing.{onLine};
 ghost use Rattle.program.specs.States.{Fit};
-ghost use Rattle.program.specs.Saying.{numbersIn, phaseAfter, sheetLine};
+ghost use Rattle.program.specs.Saying.{lineNumbers, stageAfter, sheetLine};
 ghost use Rattle.respond.specs.Carrying.{checkText, SheetSaid};
+ghost use Rattle.rules.specs.Settings.{sheetLines};
+use rules::SHEET_LINES;
 use crate::state::stop;
 use program::State;
 use rules::Refusal;
@@ -19,11 +21,11 @@ use sheet::read_line;
 use text::line_end;
 
 // Line i of a sheet, counted from 0; one whose beginning was dropped has no form.
-fn read_whole(long: bool, i: usize, line: &[u8], before: Settings) -> LineRead
-    requires { ⌜ i < 13 ⌝ }
-    ensures { λ r. ⌜ r ≡ onLine i before (numbersIn long (formAt i) (now (line .entry))) ⌝ }
+fn read_whole(overlong: bool, i: usize, line: &[u8], before: Settings) -> LineRead
+    requires { ⌜ i < sheetLines ⌝ }
+    ensures { λ r. ⌜ r ≡ onLine i before (lineNumbers overlong (formAt i) (now (line .entry))) ⌝ }
 {
-    if long {
+    if overlong {
         return LineRead {
             check: SettingsCheck::Refused(Refusal::Form, (i + 1) as u8),
             settings: before,
@@ -32,10 +34,10 @@ fn read_whole(long: bool, i: usize, line: &[u8], before: Settings) -> LineRead
     read_line(i, line, before)
 }
 
-fn phase_after(line: u64) -> u8
-    ensures { λ r. ⌜ r ≡ phaseAfter line ⌝ }
+fn stage_after(line: u64) -> u8
+    ensures { λ r. ⌜ r ≡ stageAfter line ⌝ }
 {
-    if line == 13 { 1 } else { 0 }
+    if line == SHEET_LINES as u64 { 1 } else { 0 }
 }
 
 // The state after a sheet's line, and what checking the line found.
@@ -45,15 +47,15 @@ pub struct SheetLine {
 }
 
 fn sheet_line(q: State, line: &[u8]) -> SheetLine
-    requires { ⌜ (q .phase ≡ 0) × (Fit q (length (now line) + 1)) ⌝ }
+    requires { ⌜ (q .stage ≡ 0) × (Fit q (length (now line) + 1)) ⌝ }
     ensures { λ r. ⌜ sheetLine q (now (line .entry)) ≡ record { state = r .state; text = checkText (r .check) } ⌝ }
-    ensures { λ r. ⌜ ((cause : Refusal) (n : ℕ) → r .check ≡ SettingsCheck.Refused cause n → r .state .phase ≡ 2) ⌝ }
+    ensures { λ r. ⌜ ((cause : Refusal) (n : ℕ) → r .check ≡ SettingsCheck.Refused cause n → r .state .stage ≡ 2) ⌝ }
 {
     let n = line.len() as u64 + 1;
     let number = q.line;
     let before = q.settings;
     let board = q.board;
-    let read = read_whole(q.long, (number - 1) as usize, line, before);
+    let read = read_whole(q.overlong, (number - 1) as usize, line, before);
     let check = read.check;
     match check {
         SettingsCheck::Refused(_, _) => SheetLine {
@@ -63,9 +65,9 @@ fn sheet_line(q: State, line: &[u8]) -> SheetLine
         SettingsCheck::Accepted => {
             let settings = read.settings;
             let state = State {
-                phase: phase_after(number),
+                stage: stage_after(number),
                 line: number + 1,
-                long: false,
+                overlong: false,
                 taken: q.taken + n,
                 settings,
                 board,
@@ -89,7 +91,7 @@ pub fn sheet_lines(q: State, s: &[u8]) -> SheetLines
 {
     let mut state = q;
     let mut at = 0;
-    while state.phase == 0 {
+    while state.stage == 0 {
         let end = line_end(s, at);
         if end >= s.len() {
             return SheetLines {

@@ -3,6 +3,7 @@ ghost use mathlib.Core.Path.{_≡_};
 ghost use mathlib.Core.Bool.{_||_};
 ghost use Prim.Native.Nat.{_+_, _<_};
 ghost use Rattle.program.specs.States.{start, sensible, stopped};
+use rules::SHEET_LINES;
 use program::State;
 use service::fresh;
 use sheet::no_settings;
@@ -25,9 +26,9 @@ pub fn start() -> State
     ensures { λ r. ⌜ r ≡ start ⌝ }
 {
     State {
-        phase: 0,
+        stage: 0,
         line: 1,
-        long: false,
+        overlong: false,
         taken: 0,
         settings: no_settings(),
         board: fresh(),
@@ -49,8 +50,8 @@ pub fn sensible(q: State) -> bool
     if taken + 1 < line {
         return false;
     }
-    if q.phase == 0 {
-        return line <= 13;
+    if q.stage == 0 {
+        return line <= SHEET_LINES as u64;
     }
     true
 }
@@ -63,9 +64,9 @@ pub fn stop(q: State, n: u64) -> State
     let settings = q.settings;
     let board = q.board;
     State {
-        phase: 2,
+        stage: 2,
         line: q.line,
-        long: false,
+        overlong: false,
         taken: q.taken + n,
         settings,
         board,

@@ -5,9 +5,12 @@ ghost use Prim.Native.Nat.{ℕ, _+_, _-_, _≤_, _<_};
 ghost use lib.ListN.{length};
 ghost use Rattle.rules.specs.Samples.{Equipment};
 ghost use Rattle.buffers.specs.Written.{Wrote};
-ghost use Rattle.program.specs.States.{Fit};
+ghost use Rattle.program.specs.States.{Fit, dropping};
 ghost use Rattle.program.specs.Saying.{endText};
-ghost use Rattle.respond.specs.Carrying.{droppedState, Closed, Stuck};
+ghost use Rattle.respond.specs.Carrying.{Closed, Stuck};
+ghost use Rattle.program.specs.Responses.{lineRoom};
+use text::LONGEST;
+use rules::LINE_ROOM;
 use crate::state::Handled;
 use crate::state::either;
 use crate::state::stop;
@@ -17,18 +20,18 @@ use rules::Refusal;
 
 // What is written where the input ends with n bytes of a line.
 fn put_end(out: &mut [u8], at: usize, q: State, n: usize) -> usize
-    requires { ⌜ at + 128 ≤ length (now out) ⌝ }
+    requires { ⌜ at + lineRoom ≤ length (now out) ⌝ }
     ensures { λ r. ⌜ ((l : List ℕ) → length l ≡ n → Wrote (now (out .entry)) at (now (out .exit)) r (endText q l)) ⌝ }
 {
-    let phase = q.phase;
+    let stage = q.stage;
     let line = q.line;
-    if phase == 0 {
+    if stage == 0 {
         return put_refused(out, at, Refusal::Form, line);
     }
-    if 2 <= phase {
+    if 2 <= stage {
         return at;
     }
-    let begun = either(q.long, 0 < n);
+    let begun = either(q.overlong, 0 < n);
     if begun {
         return put_refused(out, at, Refusal::Sample, line);
     }
@@ -38,14 +41,14 @@ fn put_end(out: &mut [u8], at: usize, q: State, n: usize) -> usize
 // The state with the n bytes of a line longer than any form dropped.
 fn drop_bytes(q: State, n: u64) -> State
     requires { ⌜ q .taken + n < 18446744073709551616 ⌝ }
-    ensures { λ r. ⌜ r ≡ droppedState q n ⌝ }
+    ensures { λ r. ⌜ r ≡ dropping q n ⌝ }
 {
     let settings = q.settings;
     let board = q.board;
     State {
-        phase: q.phase,
+        stage: q.stage,
         line: q.line,
-        long: true,
+        overlong: true,
         taken: q.taken + n,
         settings,
         board,
@@ -61,12 +64,12 @@ pub fn tail(h: Handled, s: &[u8], ends: bool, out: &mut [u8]) -> Handled
     let q = h.state;
     let at = h.at;
     let w = h.written;
-    let phase = q.phase;
+    let stage = q.stage;
     let end = s.len();
-    if 2 <= phase {
+    if 2 <= stage {
         return h;
     }
-    if out.len() - w < 128 {
+    if out.len() - w < LINE_ROOM {
         return h;
     }
     let n = end - at;
@@ -79,7 +82,7 @@ pub fn tail(h: Handled, s: &[u8], ends: bool, out: &mut [u8]) -> Handled
             written,
         };
     }
-    let longer = either(q.long, 128 < n);
+    let longer = either(q.overlong, LONGEST < n);
     if longer {
         let state = drop_bytes(q, n as u64);
         return Handled {

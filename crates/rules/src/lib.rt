@@ -6,6 +6,9 @@ ghost use Rattle.rules.specs.Refusals.{refusalNumber};
 // How many lines a sheet has; `sheetLines` in specs/.
 pub const SHEET_LINES: usize = 13;
 
+// Room for one line that is written, whichever; `lineRoom` in specs/.
+pub const LINE_ROOM: usize = 128;
+
 // A trip line: a voltage or frequency limit, and its clearing time in steps.
 #[repr(C)]
 pub struct Limit {

@@ -129,7 +129,7 @@ pub record Found : Type 0 where
   pub was : Bool
   pub on : Bool
   pub area : Region
-  pub even : Bool
+  pub continues : Bool
   pub ramp : ℕ
 
 -- what its parts promise of that, for a reading r and a record b
@@ -139,8 +139,8 @@ pub record Promised (s : Settings) (r : Reading) (b : Board) (f : Found) : Type 
   pub before : f .was ≡ inService (b .status)
   pub after : (trips : List Bool) (ready : Bool) → f .bits ≡ packedAfter 0 (trips ++ (ready ∷ [])) → f .on ≡ serves (f .was) (r .permit) (any trips) ready
   pub place : f .area ≡ regionAt r
-  pub steady : f .even ≡ isContinuous (f .area)
-  pub climb : f .ramp ≡ ramped (f .was) (f .on) (f .even) (s .ramp) (cond (f .was) (min (s .ramp) (b .ramp)) 0)
+  pub steady : f .continues ≡ isContinuous (f .area)
+  pub climb : f .ramp ≡ ramped (f .was) (f .on) (f .continues) (s .ramp) (cond (f .was) (min (s .ramp) (b .ramp)) 0)
 
 module _ (e : Equipment) (s : Settings) (x : Slice) (r : Reading) (regions : e .region ≡ voltageRegion) (q : readingOf e x ≡ r)
     (b : Board) (nine : length (b .counters) ≡ 9) (f : Found) (p : Promised s r b f) where

@@ -17,11 +17,12 @@ use Rattle.rules.specs.Forms.{sheetForms, sampleForm, numbersOf}
 use Rattle.formats.specs.Marks.{marks, forms, formAt}
 use Rattle.basics.proofs.Bools.{both}
 use Rattle.formats.proofs.Forms.{separated, line-written, written-length}
+use Rattle.text.specs.Forms.{longest}
 
 -- ---- one test for all forms
 
 abbrev made : List ℕ → Bool
-made f = leb (marks f) 8 && (separated f && (leb (length f + 6 * marks f) 128 && not (hasFeed f)))
+made f = leb (marks f) 8 && (separated f && (leb (length f + 6 * marks f) longest && not (hasFeed f)))
 
 at-all : (fs : List (List ℕ)) → all (map made fs) ≡ true → made [] ≡ true → (i : ℕ) → made (getD fs i []) ≡ true
 unfolding all
@@ -38,20 +39,20 @@ form-made i = at-all forms refl refl i
 pub record Made (f : List ℕ) : Type 0 where
   pub few : marks f ≤ 8
   pub apart : separated f ≡ true
-  pub short : length f + 6 * marks f ≤ 128
+  pub short : length f + 6 * marks f ≤ longest
   pub plain : not (hasFeed f) ≡ true
 
 pub made-at : (i : ℕ) → Made (formAt i)
 made-at i =
     let f = formAt i in
-    let a = both (leb (marks f) 8) (separated f && (leb (length f + 6 * marks f) 128 && not (hasFeed f))) (form-made i) in
-    let b = both (separated f) (leb (length f + 6 * marks f) 128 && not (hasFeed f)) (a .1) in
-    let d = both (leb (length f + 6 * marks f) 128) (not (hasFeed f)) (b .1) in
+    let a = both (leb (marks f) 8) (separated f && (leb (length f + 6 * marks f) longest && not (hasFeed f))) (form-made i) in
+    let b = both (separated f) (leb (length f + 6 * marks f) longest && not (hasFeed f)) (a .1) in
+    let d = both (leb (length f + 6 * marks f) longest) (not (hasFeed f)) (b .1) in
     record { few = leb-true _ _ (a .0); apart = b .0; short = leb-true _ _ (d .0); plain = d .1 }
 
 -- ---- no line of a form is longer than 128 bytes
 
-pub too-long : (i : ℕ) (line : List ℕ) → 128 < length line → numbersOf (formAt i) line ≡ none
+pub too-long : (i : ℕ) (line : List ℕ) → longest < length line → numbersOf (formAt i) line ≡ none
 too-long i line h = by-numbers (numbersOf (formAt i) line) refl
   where
     by-numbers : (o : Option (List ℤ)) → numbersOf (formAt i) line ≡ o → o ≡ none

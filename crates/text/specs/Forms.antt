@@ -10,10 +10,14 @@ use lib.ListN.{length}
 use Rattle.rules.specs.Text.{Taken}
 use Rattle.formats.specs.Marks.{isMark, takeMarked}
 
+-- no line of a form is longer (spec 10.10)
+abbrev pub longest : ℕ
+longest = 128
+
 -- lists, one after the other
-abbrev pub joined : List (List ℕ) → List ℕ
-joined [] = []
-joined (f ∷ fs) = f ++ joined fs
+abbrev pub concatenated : List (List ℕ) → List ℕ
+concatenated [] = []
+concatenated (f ∷ fs) = f ++ concatenated fs
 
 -- where each of them begins, the first at n, and where the last one ends
 abbrev pub startsFrom : ℕ → List (List ℕ) → List ℕ

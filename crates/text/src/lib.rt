@@ -24,6 +24,9 @@ use table::form_bytes;
 use table::form_starts;
 pub use table::sample_form;
 
+// No line of a form is longer; `longest` in specs/.
+pub const LONGEST: usize = 128;
+
 // The place of the first line feed from a place on, or the end.
 pub fn line_end(s: &[u8], from: usize) -> usize
     ensures { λ r. ⌜ r ≡ from + length (firstLine (drop from (now (s .entry)))) ⌝ }

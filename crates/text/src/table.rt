@@ -3,7 +3,7 @@
 ghost use mathlib.Core.Path.{_≡_};
 ghost use Rattle.rules.specs.Forms.{sampleForm};
 ghost use Rattle.formats.specs.Marks.{forms};
-ghost use Rattle.text.specs.Forms.{joined, startsFrom};
+ghost use Rattle.text.specs.Forms.{concatenated, startsFrom};
 
 const FORMS: [u8; 251] = *b"\
     (trip (uv1 # #))\
@@ -43,7 +43,7 @@ const STARTS: [usize; 15] = [
 
 // The forms, one after the other.
 pub fn form_bytes() -> [u8; 251]
-    ensures { λ r. ⌜ r ≡ joined forms ⌝ }
+    ensures { λ r. ⌜ r ≡ concatenated forms ⌝ }
 {
     FORMS
 }

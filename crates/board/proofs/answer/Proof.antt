@@ -6,6 +6,7 @@ use Prim.Native.Nat.{_+_, _-_, _≤_}
 use native.Mathlib.Omega.{arith}
 use denote.Ref.{now}
 use lib.ListN.{length, drop, length-take, length-drop}
+use Rattle.program.specs.Responses.{lineRoom, longest}
 use Rattle.board.proofs.Moving.{fewer, rest-short}
 use borrow.Author.Needs.{needs}
 use Rattle.board.proofs.answer.Statement.{statement}
@@ -13,7 +14,7 @@ use Rattle.board.proofs.answer.Tie as tie
 
 abbrev Inv-loop : tie.InvT-loop
 Inv-loop block last out₀ end state₀ at₀ going₀ more₀ out state at going more =
-    (at ≤ length block) × (length out ≡ length out₀) × (more ≡ false → going ≡ true → length block - at ≤ 128)
+    (at ≤ length block) × (length out ≡ length out₀) × (more ≡ false → going ≡ true → length block - at ≤ longest)
 
 abbrev μ-loop : tie.MeasureT-loop
 μ-loop block last out₀ end state₀ at₀ going₀ more₀ out state at going more =
@@ -78,7 +79,7 @@ loop-again c =
     let t = c .before .before .before .before .before .before .before .before .before .respond .ensures .1 .0 in
     let n = length-take (length s - w .at) (drop (w .at) s) in
     let m = length-drop (w .at) s in
-    let room : 128 ≤ length (w .out) = omega (arith, w .inv .1, c .before .before .before .before .before .before .before .before .before .before .before .before .before .before .before .before .pre) in (
+    let room : lineRoom ≤ length (w .out) = omega (arith, w .inv .1, c .before .before .before .before .before .before .before .before .before .before .before .before .before .before .before .before .pre) in (
       omega (arith, w .inv .0, n, m, t),
       search needs,
       rest-short (c .both2 .result) (c .before .both .result) (c .before .before .before .before .before .before .before .before .before .respond .result .done) (c .before .before .before .before .write-all .result) (c .before .before .before .before .before .before .before .before .before .respond .result .taken) (c .both2 .ensures) (c .before .both .ensures)

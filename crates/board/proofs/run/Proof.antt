@@ -5,6 +5,7 @@ use mathlib.Core.Bool.{true, cond}
 use Prim.Native.Nat.{_+_, _≤_}
 use native.Mathlib.Omega.{arith}
 use lib.ListN.{length}
+use Rattle.program.specs.Responses.{longest}
 use Rattle.board.proofs.Moving.{fewer, goes-on}
 use borrow.Author.Needs.{needs}
 use Rattle.board.proofs.run.Statement.{statement}
@@ -12,7 +13,7 @@ use Rattle.board.proofs.run.Tie as tie
 
 abbrev Inv-loop : tie.InvT-loop
 Inv-loop buf₀ out₀ state₀ have₀ budget₀ going₀ buf out state have budget going =
-    (have ≤ length buf) × (length buf ≡ length buf₀) × (length out ≡ length out₀) × (going ≡ true → have ≤ 128)
+    (have ≤ length buf) × (length buf ≡ length buf₀) × (length out ≡ length out₀) × (going ≡ true → have ≤ longest)
 
 abbrev μ-loop : tie.MeasureT-loop
 μ-loop buf₀ out₀ state₀ have₀ budget₀ going₀ buf out state have budget going =

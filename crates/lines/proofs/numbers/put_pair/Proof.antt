@@ -5,7 +5,7 @@ use native.Mathlib.Numerals.{add-one}
 use native.Mathlib.Omega.{arith}
 use lib.ListN.{length-set}
 use Rattle.buffers.proofs.Writing.{stores}
-use Rattle.lines.specs.Pieces.{pair}
+use Rattle.lines.specs.Pieces.{twoDigits}
 use borrow.Author.Needs.{needs}
 use Rattle.lines.proofs.numbers.put_pair.Statement.{statement}
 use Rattle.lines.proofs.numbers.put_pair.Tie as tie
@@ -38,7 +38,7 @@ same-length : tie.Need-same-length
 same-length c = search needs
 
 returns : tie.Need-returns
-returns c = record { after = refl; inside = omega arith; bytes = rw (add-one (c .args .at)) (stores _ (c .args .at) (pair (c .args .n)) (omega arith)) }
+returns c = record { after = refl; inside = omega arith; bytes = rw (add-one (c .args .at)) (stores _ (c .args .at) (twoDigits (c .args .n)) (omega arith)) }
 
 pub put-pair-spec : {M : Type 1} → statement M
 put-pair-spec =

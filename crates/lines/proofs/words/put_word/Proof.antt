@@ -10,7 +10,7 @@ use lib.ListN.{length, getD, take, drop, List·getD-eq-default}
 use Rattle.rules.specs.Text.{bytes}
 use Rattle.rules.specs.Transcripts.{statusWords}
 use Rattle.buffers.proofs.Writing.{written-none}
-use Rattle.lines.specs.Pieces.{statusWord, Row}
+use Rattle.lines.specs.Pieces.{statusWord, WordRow}
 use Rattle.lines.proofs.Lengths.{word-length}
 use Rattle.lines.proofs.words.put_word.Statement.{statement}
 use Rattle.lines.proofs.words.put_word.Tie as tie
@@ -20,10 +20,10 @@ unfolding statusWord
 unknown s h = ap bytes (List·getD-eq-default statusWords "" {n = s} (omega arith))
 
 row : {table : List ℕ} {s : ℕ} → s * 11 + 11 ≤ length table → getD table (s * 11) 0 ≡ length (statusWord s)
-    → take (length (statusWord s)) (drop (s * 11 + 1) table) ≡ statusWord s → Row table s
+    → take (length (statusWord s)) (drop (s * 11 + 1) table) ≡ statusWord s → WordRow table s
 row {s = s} i c w = record { inside = i; short = word-length s; count = c; word = w }
 
-rows : {table : List ℕ} → Row table 0 → Row table 1 → Row table 2 → Row table 3 → Row table 4 → Row table 5 → (s : ℕ) → s ≤ 5 → Row table s
+rows : {table : List ℕ} → WordRow table 0 → WordRow table 1 → WordRow table 2 → WordRow table 3 → WordRow table 4 → WordRow table 5 → (s : ℕ) → s ≤ 5 → WordRow table s
 rows r₀ r₁ r₂ r₃ r₄ r₅ zero h = r₀
 rows r₀ r₁ r₂ r₃ r₄ r₅ (suc zero) h = r₁
 rows r₀ r₁ r₂ r₃ r₄ r₅ (suc (suc zero)) h = r₂

@@ -15,11 +15,11 @@ use Rattle.respond.proofs.sample_lines.sample_lines.Statement.{statemen
 use Rattle.respond.proofs.sample_lines.sample_lines.Tie as tie
 
 abbrev Inv-loop : tie.InvT-loop
-Inv-loop table h s out₀ q settings fine form board₀ line₀ long₀ at₀ w₀ going₀ out board line long at w going =
-    Going (equippedWith table) s out₀ h out (here h board line long at w) going
+Inv-loop table h s out₀ q settings fine form board₀ line₀ long₀ at₀ w₀ going₀ out board line overlong at w going =
+    Going (equippedWith table) s out₀ h out (here h board line overlong at w) going
 
 abbrev μ-loop : tie.MeasureT-loop
-μ-loop table h s out₀ q settings fine form board₀ line₀ long₀ at₀ w₀ going₀ out board line long at w going =
+μ-loop table h s out₀ q settings fine form board₀ line₀ long₀ at₀ w₀ going₀ out board line overlong at w going =
     cond going (length s - at + 1) 0
 
 accepted-requires : tie.Need-accepted-requires Inv-loop μ-loop
@@ -55,9 +55,9 @@ put-answer-requires c κs =
     let s = now (a .s) in
     let d = now (a .out) in
     let e = equippedWith (now (a .table)) in
-    let before = subst (Going e s d (a .h) (w .out) (here (a .h) (w .board) (w .line) (w .long) (w .at) (w .w))) (c .before .before .before .before .before .before .before .loop-test .taken) (w .inv) in
+    let before = subst (Going e s d (a .h) (w .out) (here (a .h) (w .board) (w .line) (w .overlong) (w .at) (w .w))) (c .before .before .before .before .before .before .before .loop-test .taken) (w .inv) in
     let x = c .before .before .before .before .before .line-at in
-    room e s d (a .h) (w .out) (w .board) (w .line) (w .long) (w .at) (w .w) before (x .result) (x .ensures) (sym (c .before .before .before .before .fits2 .ensures) ∙ c .before .before .before .if1 .taken)
+    room e s d (a .h) (w .out) (w .board) (w .line) (w .overlong) (w .at) (w .w) before (x .result) (x .ensures) (sym (c .before .before .before .before .fits2 .ensures) ∙ c .before .before .before .if1 .taken)
 
 add-line : tie.Need-add-line Inv-loop μ-loop
 add-line c = let f = c .before .before .before .before .before .before .before .before .before .before .before .loop .inv .carried .stands .fit in omega (arith, f .low, f .high)
@@ -69,11 +69,11 @@ loop-less c =
     let s = now (a .s) in
     let d = now (a .out) in
     let e = equippedWith (now (a .table)) in
-    let before = subst (Going e s d (a .h) (w .out) (here (a .h) (w .board) (w .line) (w .long) (w .at) (w .w))) (c .before .before .before .before .before .before .before .before .before .before .loop-test .taken) (w .inv) in
+    let before = subst (Going e s d (a .h) (w .out) (here (a .h) (w .board) (w .line) (w .overlong) (w .at) (w .w))) (c .before .before .before .before .before .before .before .before .before .before .loop-test .taken) (w .inv) in
     let x = c .before .before .before .before .before .before .before .before .line-at in
-    let next = next-is e s d (a .h) (w .out) (w .board) (w .line) (w .long) (w .at) (w .w) before (x .result) (x .ensures) (sym (c .before .before .before .before .before .before .before .fits2 .ensures) ∙ c .before .before .before .before .before .before .if1 .taken) in
+    let next = next-is e s d (a .h) (w .out) (w .board) (w .line) (w .overlong) (w .at) (w .w) before (x .result) (x .ensures) (sym (c .before .before .before .before .before .before .before .fits2 .ensures) ∙ c .before .before .before .before .before .before .if1 .taken) in
     let r = c .before .before .before .before .before .answer-to in
-    let on = goes-on e s d (a .h) (w .out) (w .board) (w .line) (w .long) (w .at) (w .w) before (x .result) (x .ensures) (sym (c .before .before .before .before .before .before .before .fits2 .ensures) ∙ c .before .before .before .before .before .before .if1 .taken) (r .result) (r .ensures) _ _ (c .before .before .put-answer .ensures) in
+    let on = goes-on e s d (a .h) (w .out) (w .board) (w .line) (w .overlong) (w .at) (w .w) before (x .result) (x .ensures) (sym (c .before .before .before .before .before .before .before .fits2 .ensures) ∙ c .before .before .before .before .before .before .if1 .taken) (r .result) (r .ensures) _ _ (c .before .before .put-answer .ensures) in
     rw (c .before .before .before .before .before .before .if1 .taken, c .before .before .before .before .before .before .before .before .before .before .loop-test .taken) (omega (arith, next, on .carried .stands .inside))
 
 loop-again : tie.Need-loop-again Inv-loop μ-loop
@@ -83,10 +83,10 @@ loop-again c =
     let s = now (a .s) in
     let d = now (a .out) in
     let e = equippedWith (now (a .table)) in
-    let before = subst (Going e s d (a .h) (w .out) (here (a .h) (w .board) (w .line) (w .long) (w .at) (w .w))) (c .before .before .before .before .before .before .before .before .before .before .loop-test .taken) (w .inv) in
+    let before = subst (Going e s d (a .h) (w .out) (here (a .h) (w .board) (w .line) (w .overlong) (w .at) (w .w))) (c .before .before .before .before .before .before .before .before .before .before .loop-test .taken) (w .inv) in
     let x = c .before .before .before .before .before .before .before .before .line-at in
     let r = c .before .before .before .before .before .answer-to in
-    rw (c .before .before .before .before .before .before .if1 .taken) (goes-on e s d (a .h) (w .out) (w .board) (w .line) (w .long) (w .at) (w .w) before (x .result) (x .ensures) (sym (c .before .before .before .before .before .before .before .fits2 .ensures) ∙ c .before .before .before .before .before .before .if1 .taken) (r .result) (r .ensures) _ _ (c .before .before .put-answer .ensures))
+    rw (c .before .before .before .before .before .before .if1 .taken) (goes-on e s d (a .h) (w .out) (w .board) (w .line) (w .overlong) (w .at) (w .w) before (x .result) (x .ensures) (sym (c .before .before .before .before .before .before .before .fits2 .ensures) ∙ c .before .before .before .before .before .before .if1 .taken) (r .result) (r .ensures) _ _ (c .before .before .put-answer .ensures))
 
 loop-less-2 : tie.Need-loop-less-2 Inv-loop μ-loop
 loop-less-2 c = rw (c .if1 .left, c .before .before .before .before .loop-test .taken) (omega arith)
@@ -98,9 +98,9 @@ loop-again-2 c =
     let s = now (a .s) in
     let d = now (a .out) in
     let e = equippedWith (now (a .table)) in
-    let before = subst (Going e s d (a .h) (w .out) (here (a .h) (w .board) (w .line) (w .long) (w .at) (w .w))) (c .before .before .before .before .loop-test .taken) (w .inv) in
+    let before = subst (Going e s d (a .h) (w .out) (here (a .h) (w .board) (w .line) (w .overlong) (w .at) (w .w))) (c .before .before .before .before .loop-test .taken) (w .inv) in
     let x = c .before .before .line-at in
-    rw (c .if1 .left) (stops e s d (a .h) (w .out) (w .board) (w .line) (w .long) (w .at) (w .w) before (x .result) (x .ensures) (sym (c .before .fits2 .ensures) ∙ c .if1 .left))
+    rw (c .if1 .left) (stops e s d (a .h) (w .out) (w .board) (w .line) (w .overlong) (w .at) (w .w) before (x .result) (x .ensures) (sym (c .before .fits2 .ensures) ∙ c .if1 .left))
 
 sub-t27 : tie.Need-sub-t27 Inv-loop μ-loop
 sub-t27 c = c .before .before .loop .inv .carried .stands .later

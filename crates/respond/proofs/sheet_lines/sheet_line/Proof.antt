@@ -26,8 +26,8 @@ stop-requires c κs = search needs
 enum-told-2 : tie.Need-enum-told-2
 enum-told-2 c = search needs
 
-phase-after-requires : tie.Need-phase-after-requires
-phase-after-requires c κs = search needs
+stage-after-requires : tie.Need-stage-after-requires
+stage-after-requires c κs = search needs
 
 add-t16 : tie.Need-add-t16
 add-t16 c = search needs
@@ -41,7 +41,7 @@ returns c = (rw (← c .before .before .before .read-whole .ensures, c .before .
 returns-2 : tie.Need-returns-2
 returns-2 c =
     let told = c .before .before .before .enum-told2 .given .1 in (
-      rw (← c .before .before .before .before .before .read-whole .ensures, told, c .before .phase-after .ensures),
+      rw (← c .before .before .before .before .before .read-whole .ensures, told, c .before .stage-after .ensures),
       λ cause n e.
           let clash : SettingsCheck.Accepted ≡ SettingsCheck.Refused cause n = sym told ∙ e in
           let z : _≡_ {A = ℕ} 0 1 = cc in absurd (omega arith),
@@ -57,7 +57,7 @@ sheet-line-spec =
     enum-told
     stop-requires
     enum-told-2
-    phase-after-requires
+    stage-after-requires
     add-t16
     add-t17
     returns

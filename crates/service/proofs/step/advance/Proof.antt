@@ -36,12 +36,12 @@ ramp-after-requires c κs = search needs
 
 settle-requires : tie.Need-settle-requires
 settle-requires c κs =
-    let even = c .before in
-    let on = even .before .before in
+    let continues = c .before in
+    let on = continues .before .before in
     let was = on .before in
     let start = was .before .before .before .before in
     let a = start .args in
-    let top = ramp-top (was .in-service .result) (on .in-service-after .result) (even .is-continuous .result) (a .s .ramp) (a .b .ramp) in
+    let top = ramp-top (was .in-service .result) (on .in-service-after .result) (continues .is-continuous .result) (a .s .ramp) (a .b .ramp) in
     (start .pre, rw (c .ramp-after .ensures) top)
 
 nine-counters : (c : tie.Start) → length (c .args .b .counters) ≡ 9
@@ -51,8 +51,8 @@ returns : tie.Need-returns
 returns c =
     λ e x regions q.
     let ramp = c .before in
-    let even = ramp .before in
-    let area = even .before in
+    let continues = ramp .before in
+    let area = continues .before in
     let on = area .before in
     let was = on .before in
     let cs = was .before in
@@ -65,7 +65,7 @@ returns c =
       was = was .in-service .result;
       on = on .in-service-after .result;
       area = area .region .result;
-      even = even .is-continuous .result;
+      continues = continues .is-continuous .result;
       ramp = ramp .ramp-after .result;
     } in
     let promised : Promised (a .s) (a .r) (a .b) found
@@ -75,7 +75,7 @@ returns c =
       before = was .in-service .ensures;
       after = on .in-service-after .ensures;
       place = area .region .ensures;
-      steady = even .is-continuous .ensures;
+      steady = continues .is-continuous .ensures;
       climb = ramp .ramp-after .ensures;
     } in
     let region-is = region-found e (a .s) x (a .r) regions q (a .b) (nine-counters start) found promised in

@@ -12,11 +12,11 @@ use Rattle.rules.specs.Samples.{Slice}
 use Rattle.rules.specs.History.{History, followedBy, streak}
 
 -- two counts that reach their top after the same numbers of more steps are equal, cut at the top
-pub told : (top a b most : ℕ) → top ≤ most
+pub same-count : (top a b most : ℕ) → top ≤ most
     → ((k : ℕ) → k ≤ most → top ≤ k + a → top ≤ k + b)
     → ((k : ℕ) → k ≤ most → top ≤ k + b → top ≤ k + a)
     → min top a ≡ min top b
-told top a b most h f g =
+same-count top a b most h f g =
     let p : top ≤ (top - a) + b = f (top - a) (omega arith) (omega arith) in
     let q : top ≤ (top - b) + a = g (top - b) (omega arith) (omega arith) in
     omega arith
