@@ -185,11 +185,14 @@ module _ (e : Equipment) (s d : List ℕ) (h : Handled) (d′ : List ℕ) (b : B
           stands : Stands s (h .state) (h .at) (sampled h (r .board) (n + 1) false (x .next)) (x .next)
           stands =
               subst (Stands s (h .state) (h .at) (sampled h (r .board) (n + 1) false (x .next))) (sym next-is)
-              (subst (λ (k : State). Stands s (h .state) (h .at) k (at + length line + 1)) (ap (λ (k : Said). k .state) said-is) (next-stands e s (h .state) q (h .at) at fed refl (going .carried .stands)))
+              (subst (λ (k : State). Stands s (h .state) (h .at) k (at + length line + 1)) (ap (λ (k : Said). k .state) said-is)
+              (next-stands e s (h .state) q (h .at) at fed refl (going .carried .stands)))
 
           same-line : (before : List ℕ) → length before ≡ h .written → (ends : Bool)
               → handled e ends (length d) (record { state = q; text = before ++ going .carried .text }) (linesIn (drop at s))
-              ≡ handled e ends (length d) (record { state = sampled h (r .board) (n + 1) false (x .next); text = before ++ (going .carried .text ++ answerLine n (r .answer)) }) (linesIn (drop (x .next) s))
+              ≡ handled e ends (length d)
+              (record { state = sampled h (r .board) (n + 1) false (x .next); text = before ++ (going .carried .text ++ answerLine n (r .answer)) })
+              (linesIn (drop (x .next) s))
           same-line before l ends =
               let c = going .carried in
               let size : length (before ++ c .text) + lineRoom ≤ length d = omega (arith, length-append before (c .text), c .wrote .after, room, wrote-length (c .wrote)) in

@@ -53,7 +53,8 @@ module _ (q : State) (l : List ℕ) where
 -- ---- the tail
 
 module _ (e : Equipment) (ends : Bool) (s d : List ℕ) (h : Handled) (inside : h .at ≤ length s) (full : h .written ≤ length d) where
-  stays : ((before : List ℕ) → length before ≡ h .written → handled e ends (length d) (record { state = h .state; text = before }) (linesIn (drop (h .at) s)) ≡ record { state = h .state; text = before })
+  stays : ((before : List ℕ) → length before ≡ h .written
+      → handled e ends (length d) (record { state = h .state; text = before }) (linesIn (drop (h .at) s)) ≡ record { state = h .state; text = before })
       → Closed e ends s d h d h
   stays f =
       record {
@@ -75,7 +76,9 @@ module _ (e : Equipment) (ends : Bool) (s d : List ℕ) (h : Handled) (inside : 
 
   pub full-stays : length d < h .written + lineRoom → Closed e ends s d h d h
   full-stays p =
-      stays (λ before l. handled-stops e ends (length d) (record { state = h .state; text = before }) (linesIn (drop (h .at) s)) (rw (lt-ltb (length d) (length before + lineRoom) (omega arith)) (or-true (isDone (h .state)))))
+      stays (λ before l.
+      handled-stops e ends (length d) (record { state = h .state; text = before }) (linesIn (drop (h .at) s))
+      (rw (lt-ltb (length d) (length before + lineRoom) (omega arith)) (or-true (isDone (h .state)))))
 
   module _ (low : h .state .stage < 2) (free : h .written + lineRoom ≤ length d) (stuck : Stuck s d h) where
     going : isDone (h .state) ≡ false
@@ -84,7 +87,8 @@ module _ (e : Equipment) (ends : Bool) (s d : List ℕ) (h : Handled) (inside : 
     abbrev rest : List ℕ
     rest = drop (h .at) s
 
-    tail-is : (before : List ℕ) → length before ≡ h .written → handled e ends (length d) (record { state = h .state; text = before }) (linesIn rest) ≡ atTail ends (record { state = h .state; text = before }) rest
+    tail-is : (before : List ℕ) → length before ≡ h .written
+        → handled e ends (length d) (record { state = h .state; text = before }) (linesIn rest) ≡ atTail ends (record { state = h .state; text = before }) rest
     tail-is before l =
         handled-unfed e ends (length d) (record { state = h .state; text = before }) rest (stuck going free)
         ∙ rw (going, le-ltb (length d) (length before + lineRoom) (omega arith))

@@ -64,6 +64,10 @@ not-samples e s d h inside room fit waiting other = (
 
 -- ---- one part after the other
 
+-- what is said from a state on, after a text
+abbrev sayingOn : Equipment → Bool → ℕ → List ℕ → Handled → List ℕ → Said
+sayingOn e ends size s a text = handled e ends size (record { state = a .state; text = text }) (linesIn (drop (a .at) s))
+
 module _ (e : Equipment) (s d d₁ d₂ : List ℕ) (h a : Handled) (first : Carried e s d h d₁ a) where
   same-size : length d₁ ≡ length d
   same-size = wrote-length (first .wrote)
@@ -80,9 +84,10 @@ module _ (e : Equipment) (s d d₁ d₂ : List ℕ) (h a : Handled) (first : Car
         text = first .text ++ second .text;
         wrote = and-then (first .wrote) (second .wrote);
         same = λ before l ends.
+            let said = before ++ first .text in
             first .same before l ends
-            ∙ subst (λ (n : ℕ). handled e ends n (record { state = a .state; text = before ++ first .text }) (linesIn (drop (a .at) s)) ≡ handled e ends n (record { state = b .state; text = (before ++ first .text) ++ second .text }) (linesIn (drop (b .at) s))) same-size (second .same (before ++ first .text) (longer before l) ends)
-            ∙ ap (λ (t : List ℕ). handled e ends (length d) (record { state = b .state; text = t }) (linesIn (drop (b .at) s))) (append-assoc before (first .text) (second .text));
+            ∙ subst (λ (n : ℕ). sayingOn e ends n s a said ≡ sayingOn e ends n s b (said ++ second .text)) same-size (second .same said (longer before l) ends)
+            ∙ ap (sayingOn e ends (length d) s b) (append-assoc before (first .text) (second .text));
       }
 
   pub closed-then : (ends : Bool) (r : Handled) → Closed e ends s d₁ a d₂ r → Closed e ends s d h d₂ r
@@ -95,8 +100,10 @@ module _ (e : Equipment) (s d d₁ d₂ : List ℕ) (h a : Handled) (first : Car
         text = first .text ++ second .text;
         wrote = and-then (first .wrote) (second .wrote);
         all = λ before l.
+            let said = before ++ first .text in
+            let after : Said = record { state = r .state; text = said ++ second .text } in
             first .same before l ends
-            ∙ subst (λ (n : ℕ). handled e ends n (record { state = a .state; text = before ++ first .text }) (linesIn (drop (a .at) s)) ≡ record { state = r .state; text = (before ++ first .text) ++ second .text }) same-size (second .all (before ++ first .text) (longer before l))
+            ∙ subst (λ (n : ℕ). sayingOn e ends n s a said ≡ after) same-size (second .all said (longer before l))
             ∙ ap (λ (t : List ℕ). record { state = r .state; text = t }) (append-assoc before (first .text) (second .text));
       }
 

@@ -128,7 +128,8 @@ fn share(ramp: u32, length: u32) -> u32
 // Spec 6.13 to 8.1: the record and the report, from the counters, in service, the region and the ramp count.
 fn settle(s: Settings, r: Reading, c: Counters, on: bool, area: Region, ramp: u32) -> Stepped
     requires { ⌜ (Exportable r s) × (ramp ≤ s .ramp) ⌝ }
-    ensures { λ t. ⌜ ((e : Equipment) (x : Slice) → readingOf e x ≡ r → regionOf e x ≡ area → Bits e s (c .n) (c .bits) → t ≡ reported e s (settled e s x (c .n) on ramp)) ⌝ }
+    ensures { λ t. ⌜ ((e : Equipment) (x : Slice) → readingOf e x ≡ r → regionOf e x ≡ area → Bits e s (c .n) (c .bits)
+        → t ≡ reported e s (settled e s x (c .n) on ramp)) ⌝ }
 {
     let length = s.ramp;
     let status = status_of(on, area, ramp == length);

@@ -40,7 +40,9 @@ returns-2 c =
     let s = now (a .args .s) in
     let d = now (a .args .out) in
     let r = c .before .before .before .before .before .before .before .before .sheet-lines in
-    (λ e. sheet-carried e (a .args .q) s d _ (r .result) _ (r .ensures) (a .pre .1) (rw (c .before .before .before .before .before .check .given .1) (c .before .before .put-refused .ensures)), r .ensures .stuck)
+    let known = c .before .before .before .before .before .check .given .1 in
+    let put = c .before .before .put-refused .ensures in
+    (λ e. sheet-carried e (a .args .q) s d _ (r .result) _ (r .ensures) (a .pre .1) (rw known put), r .ensures .stuck)
 
 pub on-sheet-spec : {M : Type 1} → statement M
 on-sheet-spec =

@@ -21,7 +21,9 @@ returns : tie.Need-returns
 returns c =
     let a = c .before .before .before .before .before .args in
     let k = c .before .before .sensible in
-    (wild ourEquipment (a .state) (now (a .block)) (a .last) (now (a .out)) (c .stop .result) (sym (k .ensures) ∙ not-true (k .result) (c .before .if1 .taken)) (c .stop .ensures), ((omega arith, omega arith), λ room going none. absurd (false≢true (sym going))))
+    let odd = sym (k .ensures) ∙ not-true (k .result) (c .before .if1 .taken) in
+    let whole = wild ourEquipment (a .state) (now (a .block)) (a .last) (now (a .out)) (c .stop .result) odd (c .stop .ensures) in
+    (whole, ((omega arith, omega arith), λ room going none. absurd (false≢true (sym going))))
 
 sub-budget : tie.Need-sub-budget
 sub-budget c =
@@ -49,7 +51,8 @@ handle-requires c κs =
     let a = c .before .before .before .before .before .before .before .before .before .args in
     let k = c .before .before .before .before .before .before .sensible in
     let l = c .before .before .before .within-budget in
-    fit-part ourEquipment (a .state) (now (a .block)) (a .last) (sym (k .ensures) ∙ not-false (k .result) (c .before .before .before .before .before .if1 .left)) (l .result) (l .ensures)
+    let told = sym (k .ensures) ∙ not-false (k .result) (c .before .before .before .before .before .if1 .left) in
+    fit-part ourEquipment (a .state) (now (a .block)) (a .last) told (l .result) (l .ensures)
 
 same-length : tie.Need-same-length
 same-length c = search needs
@@ -62,8 +65,11 @@ returns-2 c =
     let e = c .before .before .before .before .before .before .either in
     let r = c .before .before .before .handle in
     let told = sym (k .ensures) ∙ not-false (k .result) (c .before .before .before .before .before .before .before .before .before .if1 .left) in
-    let whole = responds ourEquipment (a .state) (now (a .block)) (a .last) told (l .result) (l .ensures) (e .result) (e .ensures) (now (a .out)) _ (r .result) (r .ensures) in
-    (whole, ((part-inside (now (a .block)) (l .result) (r .result .at) (r .ensures .inside), r .ensures .wrote .inside), short-left ourEquipment (a .state) (now (a .block)) (a .last) told (now (a .out)) _ _ whole))
+    let block = now (a .block) in
+    let out = now (a .out) in
+    let whole = responds ourEquipment (a .state) block (a .last) told (l .result) (l .ensures) (e .result) (e .ensures) out _ (r .result) (r .ensures) in
+    let inside = part-inside block (l .result) (r .result .at) (r .ensures .inside) in
+    (whole, ((inside, r .ensures .wrote .inside), short-left ourEquipment (a .state) block (a .last) told out _ _ whole))
 
 pub respond-spec : {M : Type 1} → statement M
 respond-spec =

@@ -8,13 +8,22 @@ use Rattle.readings.proofs.reading.read.Statement.{statement}
 use Rattle.readings.proofs.reading.read.Tie as tie
 
 shared-slice-read-first : tie.Need-shared-slice-read-first
-shared-slice-read-first c = let s = c .before .before in let seven = sample-right (now (s .args .x)) (s .pre) .seven in search needs
+shared-slice-read-first c =
+    let s = c .before .before in
+    let seven = sample-right (now (s .args .x)) (s .pre) .seven in
+    search needs
 
 shared-slice-read-second : tie.Need-shared-slice-read-second
-shared-slice-read-second c = let s = c .before .before .before in let seven = sample-right (now (s .args .x)) (s .pre) .seven in search needs
+shared-slice-read-second c =
+    let s = c .before .before .before in
+    let seven = sample-right (now (s .args .x)) (s .pre) .seven in
+    search needs
 
 shared-slice-read-third : tie.Need-shared-slice-read-third
-shared-slice-read-third c = let s = c .before .before .before .before in let seven = sample-right (now (s .args .x)) (s .pre) .seven in search needs
+shared-slice-read-third c =
+    let s = c .before .before .before .before in
+    let seven = sample-right (now (s .args .x)) (s .pre) .seven in
+    search needs
 
 volts-requires : tie.Need-volts-requires
 volts-requires c κs = let s = c .before .before .before .before in omega (arith, sample-right (now (s .args .x)) (s .pre))
@@ -53,23 +62,43 @@ add-sum-2 : tie.Need-add-sum-2
 add-sum-2 c = let s = c .before .before .before .before .before .before .before .before .before .before .before in omega (arith, sample-right (now (s .args .x)) (s .pre))
 
 shared-slice-read-frequency : tie.Need-shared-slice-read-frequency
-shared-slice-read-frequency c = let s = c .before .before .before .before .before .before .before .before .before .before .before .before in let seven = sample-right (now (s .args .x)) (s .pre) .seven in search needs
+shared-slice-read-frequency c =
+    let s = c .before .before .before .before .before .before .before .before .before .before .before .before in
+    let seven = sample-right (now (s .args .x)) (s .pre) .seven in
+    search needs
 
 shared-slice-read-permission : tie.Need-shared-slice-read-permission
-shared-slice-read-permission c = let s = c .before .before .before .before .before .before .before .before .before .before .before .before .before in let seven = sample-right (now (s .args .x)) (s .pre) .seven in search needs
+shared-slice-read-permission c =
+    let s = c .before .before .before .before .before .before .before .before .before .before .before .before .before in
+    let seven = sample-right (now (s .args .x)) (s .pre) .seven in
+    search needs
 
 shared-slice-read-available : tie.Need-shared-slice-read-available
-shared-slice-read-available c = let s = c .before .before .before .before .before .before .before .before .before .before .before .before .before .before in let seven = sample-right (now (s .args .x)) (s .pre) .seven in search needs
+shared-slice-read-available c =
+    let s = c .before .before .before .before .before .before .before .before .before .before .before .before .before .before in
+    let seven = sample-right (now (s .args .x)) (s .pre) .seven in
+    search needs
 
 shared-slice-read-limit : tie.Need-shared-slice-read-limit
-shared-slice-read-limit c = let s = c .before .before .before .before .before .before .before .before .before .before .before .before .before .before .before in let seven = sample-right (now (s .args .x)) (s .pre) .seven in search needs
+shared-slice-read-limit c =
+    let s = c .before .before .before .before .before .before .before .before .before .before .before .before .before .before .before in
+    let seven = sample-right (now (s .args .x)) (s .pre) .seven in
+    search needs
 
 returns : tie.Need-returns
 returns c =
     let high = c .before .before .before .before in
     let low = high .before .before in
     let volts = low .before .before in
-    rw (low .smaller2 .ensures, low .before .smaller .ensures, high .larger2 .ensures, high .before .larger .ensures, volts .before .before .volts .ensures, volts .before .volts2 .ensures, volts .volts3 .ensures)
+    rw (
+      low .smaller2 .ensures,
+      low .before .smaller .ensures,
+      high .larger2 .ensures,
+      high .before .larger .ensures,
+      volts .before .before .volts .ensures,
+      volts .before .volts2 .ensures,
+      volts .volts3 .ensures,
+    )
 
 pub read-spec : {M : Type 1} → statement M
 read-spec =

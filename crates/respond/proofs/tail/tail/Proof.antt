@@ -45,7 +45,9 @@ returns-3 c =
     let s = now (a .args .s) in
     let d = now (a .args .out) in
     let h = a .args .h in
-    λ e. closes e (a .args .ends) s d h (a .pre .0) (a .pre .1) (omega arith) (omega arith) (a .pre .3) (c .before .before .before .before .before .if3 .taken) _ _ (c .before .before .before .put-end .ensures) (c .stop .result) (c .stop .ensures)
+    let end = c .before .before .before .before .before .if3 .taken in
+    let put = c .before .before .before .put-end .ensures in
+    λ e. closes e (a .args .ends) s d h (a .pre .0) (a .pre .1) (omega arith) (omega arith) (a .pre .3) end _ _ put (c .stop .result) (c .stop .ensures)
 
 either-requires : tie.Need-either-requires
 either-requires c κs = search needs
@@ -59,7 +61,10 @@ returns-4 c =
     let s = now (a .args .s) in
     let d = now (a .args .out) in
     let h = a .args .h in
-    λ e. drops e (a .args .ends) s d h (a .pre .0) (a .pre .1) (omega arith) (omega arith) (a .pre .3) (c .before .before .before .if3 .left) (sym (c .before .before .either .ensures) ∙ c .before .if4 .taken) (c .drop-bytes .result) (c .drop-bytes .ensures)
+    let on = c .before .before .before .if3 .left in
+    let long = sym (c .before .before .either .ensures) ∙ c .before .if4 .taken in
+    let next = c .drop-bytes in
+    λ e. drops e (a .args .ends) s d h (a .pre .0) (a .pre .1) (omega arith) (omega arith) (a .pre .3) on long (next .result) (next .ensures)
 
 returns-5 : tie.Need-returns-5
 returns-5 c =
@@ -67,7 +72,9 @@ returns-5 c =
     let s = now (a .args .s) in
     let d = now (a .args .out) in
     let h = a .args .h in
-    λ e. waits e (a .args .ends) s d h (a .pre .0) (a .pre .1) (omega arith) (omega arith) (a .pre .3) (c .before .before .if3 .left) (sym (c .before .either .ensures) ∙ c .if4 .left)
+    let on = c .before .before .if3 .left in
+    let short = sym (c .before .either .ensures) ∙ c .if4 .left in
+    λ e. waits e (a .args .ends) s d h (a .pre .0) (a .pre .1) (omega arith) (omega arith) (a .pre .3) on short
 
 pub tail-spec : {M : Type 1} → statement M
 tail-spec =

@@ -29,7 +29,9 @@ returns c =
 returns-2 : tie.Need-returns-2
 unfolding varsOf wattsOf within
 returns-2 c =
-    (λ e x q. simp (le-leb _ _ (c .before .if1 .left), lt-leb _ _ (c .if2 .taken)), ((λ e x q. simp (le-leb _ _ (c .before .if1 .left), lt-leb _ _ (c .if2 .taken))), (omega arith, omega arith)))
+    let low = c .before .if1 .left in
+    let high = c .if2 .taken in
+    (λ e x q. simp (le-leb _ _ low, lt-leb _ _ high), ((λ e x q. simp (le-leb _ _ low, lt-leb _ _ high)), (omega arith, omega arith)))
 
 volt-var-requires : tie.Need-volt-var-requires
 volt-var-requires c κs =

@@ -35,7 +35,9 @@ advance-requires c κs =
 returns : tie.Need-returns
 returns c =
     let s = c .before .before .before .before .before in
-    sym (sample-refused (equippedWith (now (s .args .table))) (s .args .s) (now (s .args .x)) (s .args .b) _ (s .pre) (sym (c .before .before .before .check .ensures) ∙ c .before .cause .given .1))
+    let e = equippedWith (now (s .args .table)) in
+    let refused = sym (c .before .before .before .check .ensures) ∙ c .before .cause .given .1 in
+    sym (sample-refused e (s .args .s) (now (s .args .x)) (s .args .b) _ (s .pre) refused)
 
 returns-2 : tie.Need-returns-2
 returns-2 c =
