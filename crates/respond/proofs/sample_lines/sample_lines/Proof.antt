@@ -55,12 +55,12 @@ put-answer-requires c κs =
     let s = now (a .s) in
     let d = now (a .out) in
     let e = equippedWith (now (a .table)) in
-    let at = here (a .h) (w .board) (w .line) (w .long) (w .at) (w .w) in
+    let at = here (a .h) (w .board) (w .line) (w .overlong) (w .at) (w .w) in
     let test = c .before .before .before .before .before .before .before .loop-test .taken in
     let before = subst (Going e s d (a .h) (w .out) at) test (w .inv) in
     let x = c .before .before .before .before .before .line-at in
     let fits = sym (c .before .before .before .before .fits2 .ensures) ∙ c .before .before .before .if1 .taken in
-    room e s d (a .h) (w .out) (w .board) (w .line) (w .long) (w .at) (w .w) before (x .result) (x .ensures) fits
+    room e s d (a .h) (w .out) (w .board) (w .line) (w .overlong) (w .at) (w .w) before (x .result) (x .ensures) fits
 
 add-line : tie.Need-add-line Inv-loop μ-loop
 add-line c = let f = c .before .before .before .before .before .before .before .before .before .before .before .loop .inv .carried .stands .fit in omega (arith, f .low, f .high)
@@ -72,15 +72,15 @@ loop-less c =
     let s = now (a .s) in
     let d = now (a .out) in
     let e = equippedWith (now (a .table)) in
-    let at = here (a .h) (w .board) (w .line) (w .long) (w .at) (w .w) in
+    let at = here (a .h) (w .board) (w .line) (w .overlong) (w .at) (w .w) in
     let test = c .before .before .before .before .before .before .before .before .before .before .loop-test .taken in
     let before = subst (Going e s d (a .h) (w .out) at) test (w .inv) in
     let x = c .before .before .before .before .before .before .before .before .line-at in
     let fits = sym (c .before .before .before .before .before .before .before .fits2 .ensures) ∙ c .before .before .before .before .before .before .if1 .taken in
-    let next = next-is e s d (a .h) (w .out) (w .board) (w .line) (w .long) (w .at) (w .w) before (x .result) (x .ensures) fits in
+    let next = next-is e s d (a .h) (w .out) (w .board) (w .line) (w .overlong) (w .at) (w .w) before (x .result) (x .ensures) fits in
     let r = c .before .before .before .before .before .answer-to in
     let put = c .before .before .put-answer .ensures in
-    let on = goes-on e s d (a .h) (w .out) (w .board) (w .line) (w .long) (w .at) (w .w) before (x .result) (x .ensures) fits (r .result) (r .ensures) _ _ put in
+    let on = goes-on e s d (a .h) (w .out) (w .board) (w .line) (w .overlong) (w .at) (w .w) before (x .result) (x .ensures) fits (r .result) (r .ensures) _ _ put in
     rw (c .before .before .before .before .before .before .if1 .taken, c .before .before .before .before .before .before .before .before .before .before .loop-test .taken) (omega (arith, next, on .carried .stands .inside))
 
 loop-again : tie.Need-loop-again Inv-loop μ-loop
@@ -90,7 +90,7 @@ loop-again c =
     let s = now (a .s) in
     let d = now (a .out) in
     let e = equippedWith (now (a .table)) in
-    let at = here (a .h) (w .board) (w .line) (w .long) (w .at) (w .w) in
+    let at = here (a .h) (w .board) (w .line) (w .overlong) (w .at) (w .w) in
     let test = c .before .before .before .before .before .before .before .before .before .before .loop-test .taken in
     let before = subst (Going e s d (a .h) (w .out) at) test (w .inv) in
     let x = c .before .before .before .before .before .before .before .before .line-at in
@@ -99,7 +99,7 @@ loop-again c =
     let fits = sym (c .before .before .before .before .before .before .before .fits2 .ensures) ∙ on in
     let put = c .before .before .put-answer .ensures in
     rw on
-    (goes-on e s d (a .h) (w .out) (w .board) (w .line) (w .long) (w .at) (w .w) before (x .result) (x .ensures) fits (r .result) (r .ensures) _ _ put)
+    (goes-on e s d (a .h) (w .out) (w .board) (w .line) (w .overlong) (w .at) (w .w) before (x .result) (x .ensures) fits (r .result) (r .ensures) _ _ put)
 
 loop-less-2 : tie.Need-loop-less-2 Inv-loop μ-loop
 loop-less-2 c = rw (c .if1 .left, c .before .before .before .before .loop-test .taken) (omega arith)
@@ -111,12 +111,12 @@ loop-again-2 c =
     let s = now (a .s) in
     let d = now (a .out) in
     let e = equippedWith (now (a .table)) in
-    let at = here (a .h) (w .board) (w .line) (w .long) (w .at) (w .w) in
+    let at = here (a .h) (w .board) (w .line) (w .overlong) (w .at) (w .w) in
     let test = c .before .before .before .before .loop-test .taken in
     let before = subst (Going e s d (a .h) (w .out) at) test (w .inv) in
     let x = c .before .before .line-at in
     let full = sym (c .before .fits2 .ensures) ∙ c .if1 .left in
-    rw (c .if1 .left) (stops e s d (a .h) (w .out) (w .board) (w .line) (w .long) (w .at) (w .w) before (x .result) (x .ensures) full)
+    rw (c .if1 .left) (stops e s d (a .h) (w .out) (w .board) (w .line) (w .overlong) (w .at) (w .w) before (x .result) (x .ensures) full)
 
 sub-t27 : tie.Need-sub-t27 Inv-loop μ-loop
 sub-t27 c = c .before .before .loop .inv .carried .stands .later

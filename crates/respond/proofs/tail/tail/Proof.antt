@@ -62,9 +62,9 @@ returns-4 c =
     let d = now (a .args .out) in
     let h = a .args .h in
     let on = c .before .before .before .if3 .left in
-    let long = sym (c .before .before .either .ensures) ∙ c .before .if4 .taken in
+    let overlong = sym (c .before .before .either .ensures) ∙ c .before .if4 .taken in
     let next = c .drop-bytes in
-    λ e. drops e (a .args .ends) s d h (a .pre .0) (a .pre .1) (omega arith) (omega arith) (a .pre .3) on long (next .result) (next .ensures)
+    λ e. drops e (a .args .ends) s d h (a .pre .0) (a .pre .1) (omega arith) (omega arith) (a .pre .3) on overlong (next .result) (next .ensures)
 
 returns-5 : tie.Need-returns-5
 returns-5 c =
