@@ -5,9 +5,10 @@
  *
  * Four functions: a fresh board record, reading a sheet of settings, one step of 10 ms, saving a record's image. The library keeps
  * nothing between calls and allocates nothing; it needs memcpy and some 10 kB of stack. Any number may stand in what is lent, for there
- * is an answer to each; the contracts in crates/saltdelta/src/lib.rt say which, and that is proved.
+ * is an answer to each; the contracts in crates/saltdelta/src/lib.rt say which, and that is proved. What the board does is
+ * docs/SPECIFICATION.md.
  *
- * UNITS. Voltage in ten-thousandths of nominal, frequency in millihertz, power in ten-thousandths of rating, time in steps of 10 ms.
+ * UNITS (spec 1.2). Voltage: 10000 is nominal. Frequency: mHz. Power: 10000 is the rating. Time: steps of 10 ms.
  *
  * NUMBERS ANSWERED. 0 when nothing is refused, else the first cause found:
  *
@@ -113,8 +114,8 @@ typedef struct {
     saltdelta_point watt[2];
 } saltdelta_settings;
 
-/* The board record, which the caller keeps from step to step. It need not be one that a step has written: a count above its top is
- * read as the top, an unknown status as tripped, a tripped board's ramp count as 0, watts above 10000 as 10000. */
+/* The board record, which the caller keeps from step to step. Any numbers may stand in it; spec 5.4 says how they are read: what is above
+ * its top as the top, a status without a name as tripped. */
 typedef struct {
     uint8_t status;
     uint32_t counters[9]; /* for how many steps each limit has been broken, up to its clearing time; then the ninth */
@@ -134,7 +135,7 @@ typedef struct {
 } saltdelta_report;
 
 /* What reading a sheet answers. The part handed back is length bytes of the caller's own from start on: the refused line without its
- * line feed (a missing line is the empty part at the end), or what follows an accepted sheet. */
+ * line feed, or what follows an accepted sheet; empty, behind the last byte, where the refused line is missing (spec 3.9). */
 typedef struct {
     uint32_t number; /* 0, or 1, 2 or 3 */
     uint32_t line;   /* the refused line, from 1; 0 when the sheet is accepted */

@@ -1,8 +1,7 @@
 -- What is proved of the board: the page to open first. Each name below is a statement; the proof of `X` is `x` in proofs/Demands.antt.
 --
 -- `ours` is what the code's contracts promise, and a demand holds of the code through them. `fresh` is the result of `service::fresh`,
--- `stepOf ourEquipment` that of `service::step::step` (and of `host::step` on a lent record), `saveCheck` and `savedInto` those of
--- `image::save` (and of `host::save`), `settingsCheck` that of `settings::check`, `sensed` that of `sensing::sense`, `readSheet` and `handedBack`
+-- `stepOf ourEquipment` that of `service::step::step`, `saveCheck` and `savedInto` those of `image::save`, `settingsCheck` that of `settings::check`, `sensed` that of `sensing::sense`, `readSheet` and `handedBack`
 -- those of `reader::read_sheet` (and of `sheet::read` and `sheet::part`), `respondOf ourEquipment` that of `respond::respond`. Each of those
 -- contracts is proved in its crate for every record, settings, slice, code, buffer, state and text there can be.
 -- The exported functions, for C and Rust, promise the same words: `saltdelta_fresh` gives `fresh`; the number, record and report of
@@ -44,7 +43,8 @@ use Rattle.claims.specs.SheetCauses.{SheetsRefusedRightly}
 use Rattle.claims.specs.TripAndReturn.{TripAndReturn, CounterRule, Demand2}
 use Rattle.claims.specs.TwoHistories.{TwoHistoriesBy, Demand3}
 use Rattle.demands.specs.Edges.{EdgesHold}
-use Rattle.demands.specs.Shams.{exampleSheet, tripsEarly, inventsCounters, alwaysTripped, repeatsFirst, keepsRecord, turnsAway, savedWithoutRamp, savedWithoutNinth, reportWithoutBits, refusesNoWait, takesUnended, largeNoNumber, stepsUnended, stepsPastReturn}
+use Rattle.demands.specs.Shams.{exampleSheet, tripsEarly, inventsCounters, alwaysTripped, repeatsFirst, keepsRecord, turnsAway, savedWithoutRamp}
+use Rattle.demands.specs.Shams.{savedWithoutNinth, reportWithoutBits, refusesNoWait, takesUnended, largeNoNumber, stepsUnended, stepsPastReturn}
 
 abbrev pub ours : Program
 ours = ruledBy ourEquipment
@@ -84,9 +84,9 @@ abbrev pub OurTripAndReturn : Type 0
 OurTripAndReturn = Demand2 ourEquipment ours
 
 -- Demand 3, one claim about two whole lists: `TwoHistoriesBy` in claims/specs/TwoHistories.antt. For every accepted sheet and every two lists
--- of step calls, each call with the sheet's settings or with settings that 2 or 3 refuses, each list on its own record from a fresh
--- board: the images saved after them, each into a buffer that 9 lets pass, are equal byte for byte exactly when, for every common run
--- of 0 to 100,000 accepted samples, the reports at its end, as the accepted samples alone give them, are equal in every item.
+-- of step calls (spec 12.1, 12.2), each list on its own record from a fresh board: the images saved after them, each into a buffer that 9 lets
+-- pass, are equal byte for byte exactly when, for every common run of 0 to 100,000 accepted samples, the reports at its end, as the accepted
+-- samples alone give them, are equal in every item.
 abbrev pub OurTwoHistories : Type 0
 OurTwoHistories = Demand3 ourEquipment ours
 

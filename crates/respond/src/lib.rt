@@ -15,9 +15,9 @@ mod sheet_lines;
 mod state;
 mod tail;
 
-use rules::LINE_ROOM;
 use lines::put_refused;
 use program::State;
+use rules::LINE_ROOM;
 use rules::SettingsCheck;
 use sample_lines::sample_lines;
 use sensing::table;

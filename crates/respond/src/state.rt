@@ -3,8 +3,8 @@ ghost use mathlib.Core.Path.{_≡_};
 ghost use mathlib.Core.Bool.{_||_};
 ghost use Prim.Native.Nat.{_+_, _<_};
 ghost use Rattle.program.specs.States.{start, sensible, stopped};
-use rules::SHEET_LINES;
 use program::State;
+use rules::SHEET_LINES;
 use service::fresh;
 use sheet::no_settings;
 

@@ -9,14 +9,14 @@ ghost use Rattle.program.specs.States.{Fit, dropping};
 ghost use Rattle.program.specs.Saying.{endText};
 ghost use Rattle.respond.specs.Carrying.{Closed, Stuck};
 ghost use Rattle.program.specs.Responses.{lineRoom};
-use text::LONGEST;
-use rules::LINE_ROOM;
 use crate::state::Handled;
 use crate::state::either;
 use crate::state::stop;
 use lines::put_refused;
 use program::State;
+use rules::LINE_ROOM;
 use rules::Refusal;
+use text::LONGEST;
 
 // What is written where the input ends with n bytes of a line.
 fn put_end(out: &mut [u8], at: usize, q: State, n: usize) -> usize
