@@ -58,7 +58,6 @@ counts-fit : (h : History) (rs : List Rule) → AllTellable rs → AllFit (map (
 counts-fit h [] t = tt
 counts-fit h (r ∷ rs) t = (omega (arith, t .0 .reach), counts-fit h rs (t .1))
 
-
 module _ (e : Equipment) (sound : Sound e) (st : Settings) (ok : settingsAccepted st ≡ true) where
   watts-below : (h : History) → AllAccepted h → historyWatts e st h ≤ 10000
   unfolding historyWatts wattsOf
@@ -154,10 +153,15 @@ module _ (e : Equipment) (sound : Sound e) (st : Settings) (ok : settingsAccepte
 
   two-histories : TwoHistoriesBy savedInto (historyReport e) (ruledBy e) st
   two-histories ps qs up uq a b ra rb =
-      let fp = record-fits (acceptedSamples ps) (samples-accepted ps [] tt) in
-      let fq = record-fits (acceptedSamples qs) (samples-accepted qs [] tt) in (
-        (λ p. records-agree (acceptedSamples ps) (acceptedSamples qs) (image-inj _ _ fp fq (sym (saved-is ps up a ra) ∙ p ∙ saved-is qs uq b rb))),
-        (λ f. saved-is ps up a ra ∙ ap image (records-equal (acceptedSamples ps) (acceptedSamples qs) (samples-accepted ps [] tt) (samples-accepted qs [] tt) f) ∙ sym (saved-is qs uq b rb)),
+      let hp = acceptedSamples ps in
+      let hq = acceptedSamples qs in
+      let accepted-p = samples-accepted ps [] tt in
+      let accepted-q = samples-accepted qs [] tt in
+      let p-is = saved-is ps up a ra in
+      let q-is = saved-is qs uq b rb in
+      let told = image-inj _ _ (record-fits hp accepted-p) (record-fits hq accepted-q) in (
+        (λ p. records-agree hp hq (told (sym p-is ∙ p ∙ q-is))),
+        (λ f. p-is ∙ ap image (records-equal hp hq accepted-p accepted-q f) ∙ sym q-is),
       )
 
 pub demand3 : (e : Equipment) → Sound e → Demand3 e (ruledBy e)

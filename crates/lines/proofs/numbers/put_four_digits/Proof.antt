@@ -29,8 +29,9 @@ returns-2 : tie.Need-returns-2
 returns-2 c =
     let two = c .before .before .before .before .before .before in
     let start = two .before .before .before .before in
-    let w = and-then (two .put-two-digits2 .ensures .0) (c .before .before .put-pair .ensures) in
-    (rw (pair-more (start .args .n) (two .before .before .if1 .left) (omega arith)) w, omega (arith, two .put-two-digits2 .ensures .1, c .before .before .put-pair .ensures .after))
+    let pair = c .before .before .put-pair .ensures in
+    let w = and-then (two .put-two-digits2 .ensures .0) pair in
+    (rw (pair-more (start .args .n) (two .before .before .if1 .left) (omega arith)) w, omega (arith, two .put-two-digits2 .ensures .1, pair .after))
 
 pub put-four-digits-spec : {M : Type 1} → statement M
 put-four-digits-spec =

@@ -21,7 +21,8 @@ same-length c = search needs
 returns : tie.Need-returns
 returns c =
     let start = c .before .before .before .before .before .before in
-    (rw (one-digit (start .args .n) (c .before .before .before .before .if1 .taken)) (c .before .before .put-byte .ensures), omega (arith, c .before .before .put-byte .ensures .after))
+    let digit = c .before .before .put-byte .ensures in
+    (rw (one-digit (start .args .n) (c .before .before .before .before .if1 .taken)) digit, omega (arith, digit .after))
 
 put-pair-requires : tie.Need-put-pair-requires
 put-pair-requires c κs = search needs
@@ -32,7 +33,8 @@ same-length-2 c = search needs
 returns-2 : tie.Need-returns-2
 returns-2 c =
     let start = c .before .before .before .before .before .before in
-    (rw (two-digits (start .args .n) (c .before .before .before .before .if1 .left) (start .pre .1)) (c .before .before .put-pair .ensures), omega (arith, c .before .before .put-pair .ensures .after))
+    let pair = c .before .before .put-pair .ensures in
+    (rw (two-digits (start .args .n) (c .before .before .before .before .if1 .left) (start .pre .1)) pair, omega (arith, pair .after))
 
 pub put-two-digits-spec : {M : Type 1} → statement M
 put-two-digits-spec =
