@@ -1,11 +1,9 @@
 -- What a call answers, from what the operation below it says.
 -- Assumes nothing.
-use mathlib.Core.Path.{_≡_, refl, sym, ap, ap₂, _∙_}
-use mathlib.Core.Bool.{not}
+use mathlib.Core.Path.{_≡_, sym, ap, ap₂, _∙_}
 use mathlib.Core.List.{List}
-use Prim.Native.Nat.{ℕ, zero, suc, _<_, _^_}
+use Prim.Native.Nat.{ℕ, _<_, _^_}
 use native.Mathlib.Omega.{arith}
-use lib.Dec.{T, T-not, not-T, eqb, eqb-refl, eqb→eq}
 use lib.ListN.{length}
 use Rattle.rules.specs.Samples.{Slice}
 use Rattle.rules.specs.Regions.{ourEquipment}
@@ -50,16 +48,6 @@ number-positive Permission = omega arith
 number-positive Power = omega arith
 number-positive Sample = omega arith
 number-positive Buffer = omega arith
-
--- how the test of a number against 0 comes out
-
-pub above-zero : (n : ℕ) → T (not (eqb n 0)) → 0 < n
-above-zero zero t = absurd (T-not (eqb 0 0) t (eqb-refl 0))
-above-zero (suc n) t = omega arith
-
-pub is-zero : (n : ℕ) → T (not (not (eqb n 0))) → n ≡ 0
-is-zero zero t = refl
-is-zero (suc n) t = absurd (T-not (not (eqb (suc n) 0)) t (not-T (eqb (suc n) 0) (λ h. omega (arith, eqb→eq (suc n) 0 h))))
 
 -- ---- a step
 

@@ -16,11 +16,11 @@ use Rattle.walk.proofs.Walking.{entered, cited, Stays, stay-ref, stay-none-slic
 use contract.Running.{tablesOf}
 use Rattle.walk.proofs.Locals.{envOf, cells, laid, upTo}
 use Rattle.walk.proofs.Params.{pairs, comes-in, goes-out, meets-by}
+use Rattle.walk.proofs.Tests.{is-zero, above-zero}
 use Rattle.walk.proofs.Whole.{Known, typed, calls-whole, landed, gone}
 use Rattle.walk.proofs.Lent.{mut-owns, slice-owns, slice-twice, puts-mut}
 use Rattle.saltdelta.proofs.Data.{settings, answer, sheet-call, settings-of, answer-of}
 use Rattle.saltdelta.proofs.Storing.{SheetSays, SheetLeaves, sheet-stored, sheet-kept}
-use Rattle.saltdelta.proofs.Answering.{is-zero, above-zero}
 use Rattle.rules.specs.declared.Settings.{Settings}
 use Rattle.saltdelta.specs.declared.SheetAnswer.{SheetAnswer}
 use Rattle.saltdelta.specs.declared.SheetCall.{SheetCall}

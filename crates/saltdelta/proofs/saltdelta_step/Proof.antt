@@ -18,11 +18,11 @@ use Rattle.walk.proofs.Walking.{walkOf, goes-ref, goes-none-ref, goes-none-slic
 use contract.Running.{tablesOf}
 use Rattle.walk.proofs.Locals.{envOf, cells, laid, upTo}
 use Rattle.walk.proofs.Params.{pairs, comes-in, goes-out, meets-by}
+use Rattle.walk.proofs.Tests.{is-zero, above-zero}
 use Rattle.walk.proofs.Whole.{Known, typed, have, calls-whole, landed, gone}
 use Rattle.walk.proofs.Lent.{mut-owns, shr-owns, slice-owns, slice-twice, takes-mut, takes-shr, puts-mut}
 use Rattle.saltdelta.proofs.Data.{number, board, settings, report, step-call, board-of, report-of, number-of}
 use Rattle.saltdelta.proofs.Storing.{StepSays, StepLeaves, step-stored, step-kept}
-use Rattle.saltdelta.proofs.Answering.{is-zero, above-zero}
 use Rattle.rules.specs.declared.Board.{Board}
 use Rattle.rules.specs.declared.Settings.{Settings}
 use Rattle.rules.specs.declared.Report.{Report}
