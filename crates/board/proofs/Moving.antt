@@ -40,7 +40,8 @@ module _ (b : List ℕ) (from i : ℕ) where
         ∙ ap (λ (l : List ℕ). set (head ++ l) i a) (drop-cons b i 0 (omega arith))
         ∙ set-at head (getD b i 0) (drop (suc i) b) a i (head-length (omega arith))
         ∙ sym (append-snoc head a (drop (suc i) b))
-        ∙ sym (ap (λ (l : List ℕ). l ++ drop (suc i) b) (take-suc (drop from b) i 0 (omega (arith, length-drop from b)) ∙ ap (λ (k : ℕ). head ++ (k ∷ [])) (getD-drop from b i 0)))
+        ∙ sym (ap (λ (l : List ℕ). l ++ drop (suc i) b)
+        (take-suc (drop from b) i 0 (omega (arith, length-drop from b)) ∙ ap (λ (k : ℕ). head ++ (k ∷ [])) (getD-drop from b i 0)))
         ∙ ap (λ (k : ℕ). moved b from k) (sym (add-one i))
 
 -- ---- the loops' measures
@@ -58,7 +59,8 @@ fewer m g n taken e h = rw e (by g)
     by false = omega arith
 
 -- where no more is to do though the program goes on, nothing was taken and all is not done
-pub rest-short : (m g done put : Bool) (taken : ℕ) {P : Type 0} → m ≡ (g && ltb 0 taken) → g ≡ (put && not done) → (done ≡ false → taken ≡ 0 → P) → m ≡ false → g ≡ true → P
+pub rest-short : (m g done put : Bool) (taken : ℕ) {P : Type 0} → m ≡ (g && ltb 0 taken) → g ≡ (put && not done) → (done ≡ false → taken ≡ 0 → P)
+    → m ≡ false → g ≡ true → P
 rest-short m g done put taken a b f p q = f (undone put done (sym b ∙ q)) (none g (ltb 0 taken) refl (sym a ∙ p) q)
   where
     undone : (k d : Bool) → (k && not d) ≡ true → d ≡ false

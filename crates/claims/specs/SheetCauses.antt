@@ -12,7 +12,7 @@ use lib.ListN.{length, getD, drop}
 use Rattle.rules.specs.Tests.{all}
 use Rattle.rules.specs.Text.{firstLine, hasFeed, afterLine}
 use Rattle.rules.specs.Forms.{sheetForms, numbersOf}
-use Rattle.rules.specs.Settings.{Pair, Row, row, rows, inRow, rising}
+use Rattle.rules.specs.Settings.{Pair, Row, row, rows, inRow, rising, sheetLines}
 use Rattle.rules.specs.Refusals.{settingsNumber, lineOf}
 use Rattle.rules.specs.Sheets.{pairs, settingsOf, readSheet, handedBack}
 use Rattle.rules.specs.declared.SettingsCheck.{SettingsCheck}
@@ -58,7 +58,7 @@ linePairs i s = pairsBy (numbersAt sheetForms i s)
 
 -- n is the first cause of line i, and no line before it has a cause
 pub record FirstCauseAt (s : List ℕ) (i n : ℕ) : Type 0 where
-  pub line : i < 13
+  pub line : i < sheetLines
   pub here : lineCause i s ≡ n
   pub before : (k : ℕ) → k < i → lineCause k s ≡ 0
 
@@ -66,7 +66,7 @@ pub record FirstCauseAt (s : List ℕ) (i n : ℕ) : Type 0 where
 -- order of spec 3.7; and accepts exactly when no line has a cause
 pub record SheetsRefusedRightly : Type 0 where
   pub refuses : (s : List ℕ) (i n : ℕ) → 0 < n → ((settingsNumber (readSheet s .check) ≡ n) × (lineOf (readSheet s .check) ≡ i + 1)) ↔ FirstCauseAt s i n
-  pub accepts : (s : List ℕ) → (readSheet s .check ≡ SettingsCheck.Accepted) ↔ ((i : ℕ) → i < 13 → lineCause i s ≡ 0)
+  pub accepts : (s : List ℕ) → (readSheet s .check ≡ SettingsCheck.Accepted) ↔ ((i : ℕ) → i < sheetLines → lineCause i s ≡ 0)
   -- the settings of an accepted sheet are its thirteen lines' numbers, those of a refused one all 0
   pub settings : (s : List ℕ) → readSheet s .check ≡ SettingsCheck.Accepted
       → readSheet s .settings ≡ settingsOf (map (λ i. linePairs i s) (0 ∷ 1 ∷ 2 ∷ 3 ∷ 4 ∷ 5 ∷ 6 ∷ 7 ∷ 8 ∷ 9 ∷ 10 ∷ 11 ∷ 12 ∷ []))
@@ -77,4 +77,4 @@ pub record SheetsRefusedRightly : Type 0 where
   pub inside : (s : List ℕ) → readSheet s .start ≤ length s
   pub missing : (s : List ℕ) (i n : ℕ) → 0 < n → FirstCauseAt s i n → fromLine i s ≡ [] → readSheet s .start ≡ length s
   pub back : (s : List ℕ) (i n : ℕ) → 0 < n → FirstCauseAt s i n → handedBack s ≡ firstLine (fromLine i s)
-  pub rest : (s : List ℕ) → readSheet s .check ≡ SettingsCheck.Accepted → handedBack s ≡ fromLine 13 s
+  pub rest : (s : List ℕ) → readSheet s .check ≡ SettingsCheck.Accepted → handedBack s ≡ fromLine sheetLines s

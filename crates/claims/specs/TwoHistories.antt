@@ -35,7 +35,8 @@ abbrev pub TwoHistoriesBy : (Board → List ℕ → List ℕ) → (Settings → 
 TwoHistoriesBy saved report p st =
     (ps qs : List Call) → Under st ps → Under st qs
     → (a b : List ℕ) → imageLength ≤ length a → imageLength ≤ length b
-    → (take imageLength (saved (runOf p ps .board) a) ≡ take imageLength (saved (runOf p qs .board) b)) ↔ AgreeBy (report st) (acceptedSamples ps) (acceptedSamples qs)
+    → (take imageLength (saved (runOf p ps .board) a) ≡ take imageLength (saved (runOf p qs .board) b)) ↔ AgreeBy (report st) (acceptedSamples ps)
+    (acceptedSamples qs)
 
 abbrev pub Demand3By : (Board → List ℕ → List ℕ) → (Settings → History → Items) → Program → Type 0
 Demand3By saved report p = (st : Settings) → settingsAccepted st ≡ true → TwoHistoriesBy saved report p st

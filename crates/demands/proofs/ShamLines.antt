@@ -56,7 +56,8 @@ is-ended s l = let e = l .text in let z : _≡_ {A = ℕ} 0 1 = cc in omega arit
 
 pub no-unended : ¬ AnswersSamples stepsUnended
 unfolding stepsUnended
-no-unended a = not-refused (ended (writtenSample sample)) refl (a .refuses ourEquipment (exampleSheet 0) fresh (unended (writtenSample sample)) .1 (is-ended (writtenSample sample)))
+no-unended a = not-refused (ended (writtenSample sample)) refl
+    (a .refuses ourEquipment (exampleSheet 0) fresh (unended (writtenSample sample)) .1 (is-ended (writtenSample sample)))
 
 -- with a carriage return, it is none either
 abbrev returned : List ℕ

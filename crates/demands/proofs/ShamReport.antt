@@ -36,7 +36,8 @@ unfolding streak
 streak-under t x [] s = absurd s
 streak-under t x (y ∷ h) s = by (t y) s (streak-under t x h)
   where
-    by : (b : Bool) → cond b (Stops t h) (Unit {0}) → (Stops t h → streak t (under h x) ≡ streak t h) → cond b (suc (streak t (under h x))) 0 ≡ cond b (suc (streak t h)) 0
+    by : (b : Bool) → cond b (Stops t h) (Unit {0}) → (Stops t h → streak t (under h x) ≡ streak t h)
+        → cond b (suc (streak t (under h x))) 0 ≡ cond b (suc (streak t h)) 0
     by true q f = ap suc (f q)
     by false q f = refl
 
@@ -91,7 +92,9 @@ module _ (e : Equipment) (st : Settings) (ok : settingsAccepted st ≡ true) whe
     bits-under y h p i [] l = refl
     bits-under y h p i (k ∷ ks) l =
         ap₂ _∷_
-        (ap (leb (limitAt st i .clearing)) (streak-under (broken e k (limitAt st i .level)) x (y ∷ h) (stops-more (broken e k (limitAt st i .level)) y h (serving-stops h p k (limitAt st i .level) (l .0 .level-in)))))
+        (ap (leb (limitAt st i .clearing))
+        (streak-under (broken e k (limitAt st i .level)) x (y ∷ h)
+        (stops-more (broken e k (limitAt st i .level)) y h (serving-stops h p k (limitAt st i .level) (l .0 .level-in)))))
         (bits-under y h p (suc i) ks (l .1))
 
     serving-under : (h : History) → serving e st (under h x) ≡ serving e st h
@@ -160,4 +163,5 @@ agree-without-bits st ok x out run l a =
   where
     same : (h : History) → reportWithoutBits st h ≡ reportWithoutBits st (under h x)
     same h =
-        same-items (sym (status-under ourEquipment st ok x out h)) (sym (share-under ourEquipment st ok x out h)) (sym (watts-under ourEquipment st ok x out h)) (sym (vars-under ourEquipment st ok x out h))
+        same-items (sym (status-under ourEquipment st ok x out h)) (sym (share-under ourEquipment st ok x out h))
+        (sym (watts-under ourEquipment st ok x out h)) (sym (vars-under ourEquipment st ok x out h))

@@ -26,7 +26,8 @@ use Rattle.claims.specs.Calls.{Call, ruledBy}
 use Rattle.rules.specs.Refusals.{answerNumber}
 use Rattle.claims.specs.TripAndReturn.{recordOf, TripAndReturn}
 use Rattle.claims.specs.TwoHistories.{TwoHistoriesBy}
-use Rattle.demands.specs.Shams.{exampleSheet, tripsEarly, inventsCounters, alwaysTripped, repeatsFirst, keepsRecord, turnsAway, savedWithoutRamp, savedWithoutNinth, reportWithoutBits}
+use Rattle.demands.specs.Shams.{exampleSheet, tripsEarly, inventsCounters, alwaysTripped, repeatsFirst, keepsRecord, turnsAway, savedWithoutRamp}
+use Rattle.demands.specs.Shams.{savedWithoutNinth, reportWithoutBits}
 use Rattle.demands.proofs.ShamReport.{agree-without-bits}
 
 abbrev quick : Settings
@@ -102,7 +103,8 @@ idle wait = record { settings = exampleSheet wait; slice = 1000 ∷ 1000 ∷ 100
 pub no-ramp : ¬ TwoHistoriesBy savedWithoutRamp (historyReport ourEquipment) (ruledBy ourEquipment) quick
 unfolding savedWithoutRamp savedInto image imageFields fieldBytes numberBytes all any within largest voltage rows inRow rising checkFrom linesOf settingsCheck sampleCheck broken inRange voltageRegion frequencyRegion regionOf curveFrom curve nameplate varsOf wattsOf reportOf fresh each readAs settled ruled next shown stepOf streak serving climbed historyStatus historyShare historyWatts historyVars historyReport
 no-ramp d =
-    let f = d (idle 0 ∷ idle 0 ∷ []) (idle 0 ∷ idle 0 ∷ idle 0 ∷ []) (inl refl, (inl refl, tt)) (inl refl, (inl refl, (inl refl, tt))) buffer buffer (omega arith) (omega arith) .0 refl in
+    let f = d (idle 0 ∷ idle 0 ∷ []) (idle 0 ∷ idle 0 ∷ idle 0 ∷ []) (inl refl, (inl refl, tt)) (inl refl, (inl refl, (inl refl, tt))) buffer buffer
+    (omega arith) (omega arith) .0 refl in
     let e : _≡_ {A = ℕ} 100 200 = ap (λ (r : Items). r .share) (f [] (omega arith) tt) in
     omega arith
 

@@ -17,7 +17,16 @@ use Rattle.basics.proofs.Tables.{tabulated, tabulated-same}
 digits : (x : Slice) → SampleRight x → all (map sixDigits (tabulated (λ k. getD x k 0) 0 7)) ≡ true
 unfolding all
 digits x r =
-    rw (le-leb (codeOf x 0) 999999 (omega arith), le-leb (codeOf x 1) 999999 (omega arith), le-leb (codeOf x 2) 999999 (omega arith), le-leb (frequency x) 999999 (omega arith), le-leb (permission x) 999999 (omega arith), le-leb (available x) 999999 (omega arith), le-leb (operatorLimit x) 999999 (omega arith))
+    rw (
+      le-leb (codeOf x 0) 999999 (omega arith),
+      le-leb (codeOf x 1) 999999 (omega arith),
+      le-leb (codeOf x 2) 999999 (omega arith),
+      le-leb (frequency x) 999999 (omega arith),
+      le-leb
+          (permission x) 999999 (omega arith),
+      le-leb (available x) 999999 (omega arith),
+      le-leb (operatorLimit x) 999999 (omega arith),
+    )
 
 pub accepted-writable : (x : Slice) → sampleAccepted x ≡ true → writable x ≡ true
 accepted-writable x e =

@@ -79,7 +79,8 @@ module _ {A : Type 0} (r : Row) (ps : List Pair) (next : A) (refuse : Refusal �
 refused-not : (cause : Refusal) (n : ℕ) → SettingsCheck.Refused cause n ≡ SettingsCheck.Accepted → ⊥
 refused-not cause n e = let z : _≡_ {A = ℕ} 0 1 = cc in omega arith
 
-pub good-checked : {rs : List Row} {forms : List (List ℕ)} {lines : List (List Pair)} → GoodLines rs forms lines → (n : ℕ) → checkFrom n rs lines ≡ SettingsCheck.Accepted
+pub good-checked : {rs : List Row} {forms : List (List ℕ)} {lines : List (List Pair)} → GoodLines rs forms lines → (n : ℕ)
+    → checkFrom n rs lines ≡ SettingsCheck.Accepted
 unfolding checkFrom
 good-checked end n = refl
 good-checked (more g gs) n = rw (g .within, g .rises) (good-checked gs (suc n))
@@ -97,7 +98,8 @@ checked-good n (r ∷ rs) [] lines t l e = absurd (false≢true t)
 checked-good n (r ∷ rs) (form ∷ forms) [] t l e = absurd (omega (arith, ap length l))
 checked-good n (r ∷ rs) (form ∷ forms) (ps ∷ lines) t l e =
     let a = agreed r form rs forms t in
-    let p = passed r ps (checkFrom (suc n) rs lines) (λ cause. SettingsCheck.Refused cause n) (λ (k : SettingsCheck). k ≡ SettingsCheck.Accepted) (λ cause. refused-not cause n) e in
+    let p = passed r ps (checkFrom (suc n) rs lines) (λ cause. SettingsCheck.Refused cause n) (λ (k : SettingsCheck). k ≡ SettingsCheck.Accepted)
+    (λ cause. refused-not cause n) e in
     let here : amount ps ≡ marks form = cc in
     let on : map amount lines ≡ map marks forms = cc in
     more (record { suit = row-suits r form ps (a .fit) here (p .0); within = p .0; rises = p .1 }) (checked-good (suc n) rs forms lines (a .rest) on (p .2))
@@ -178,7 +180,8 @@ module _ (r : Row) (form : List ℕ) (rs : List Row) (forms : List (List ℕ)) (
       next : List Pair → SheetReading
       next ps = readFrom (suc n) (past start (firstLine s)) (read ++ (ps ∷ [])) rs forms (afterLine s)
 
-      by-numbers : (o : Option (List ℤ)) → numbersOf form (firstLine s) ≡ o → hasFeed s ≡ true → Accepts (onNumbers n start r o next) → Begun (r ∷ rs) (form ∷ forms) s
+      by-numbers : (o : Option (List ℤ)) → numbersOf form (firstLine s) ≡ o → hasFeed s ≡ true → Accepts (onNumbers n start r o next)
+          → Begun (r ∷ rs) (form ∷ forms) s
       by-numbers none p f e = absurd (refused-not Form n e)
       by-numbers (some ns) p f e =
           let k = passed r (pairs ns) (next (pairs ns)) (λ cause. refusedAt cause n start) Accepts (λ cause. refused-not cause n) e in

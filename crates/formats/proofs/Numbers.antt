@@ -8,7 +8,7 @@ use Prim.Native.Nat.{ℕ, zero, suc, _+_, _-_, _*_, _/_, _%_, _≤_, _<_}
 use native.Mathlib.Omega.{arith}
 use native.Mathlib.Decide.{decLe}
 use native.Mathlib.Nat.{zero-add}
-use borrow.Author.Tests.{lt-ltb, leb-true, le-leb, eqb-true, ne-eqb}
+use borrow.Author.Tests.{leb-true, le-leb, eqb-true, ne-eqb}
 use lib.Dec.{leb, eqb}
 use lib.IntN.{ℤ, pos, negsuc}
 use lib.ListN.{length, getD, length-append, List·getD-append}
@@ -16,19 +16,17 @@ use Rattle.rules.specs.Text.{minus, leadingDigits, afterDigits, valueAfter, wel
 use Rattle.rules.specs.Forms.{numberMark, signedMark}
 use Rattle.formats.specs.Marks.{isMark, takeMarked, fits}
 use Rattle.basics.proofs.Bools.{both}
-use Rattle.formats.proofs.Digits.{IsDigit, AllDigits, end, more, NoDigit, WellFormed, well-formed, formed-well, written-back, value-below, value-snoc, all-snoc, tens, tens-mono, leading-digits, leading-after, leading-append, after-append}
+use Rattle.basics.proofs.Digits.{last-only}
+use Rattle.formats.proofs.Digits.{IsDigit, AllDigits, end, more, NoDigit, WellFormed, well-formed, formed-well, written-back, value-below}
+use Rattle.formats.proofs.Digits.{value-snoc, all-snoc, tens, tens-mono, leading-digits, leading-after, leading-append, after-append}
 
 -- ---- decimal, and the digits that it writes
-
-one-digit : (k n : ℕ) (after : List ℕ) → n < 10 → digitsBefore (suc k) n after ≡ (48 + n) ∷ after
-unfolding digitsBefore
-one-digit k n after h = rw (lt-ltb n 10 h)
 
 -- digits after the first, d, which is 0 only where no digit follows
 after-first : (d : ℕ) (ds : List ℕ) → IsDigit d → AllDigits ds → length ds ≤ 19 → (d ≡ 48 → length ds ≡ 0)
     → digitsBefore 20 (valueAfter (d - 48) ds) [] ≡ d ∷ ds
 unfolding valueAfter
-after-first d [] x r h z = one-digit 19 (d - 48) [] (omega (arith, x .high)) ∙ ap (λ (b : ℕ). b ∷ []) (omega (arith, x .low))
+after-first d [] x r h z = last-only 19 (d - 48) [] (omega (arith, x .high)) ∙ ap (λ (b : ℕ). b ∷ []) (omega (arith, x .low))
 after-first d (e ∷ ds) x r h z =
     let above : (d ≡ 48 → ⊥) = λ q. omega (arith, z q) in
     let one : 1 ≤ d - 48 = omega (arith, x .low, above) in
@@ -36,7 +34,7 @@ after-first d (e ∷ ds) x r h z =
     let count : 20 ≡ length (e ∷ ds) + suc (19 - length (e ∷ ds)) = omega arith in
     ap (λ (k : ℕ). digitsBefore k (valueAfter (d - 48) (e ∷ ds)) []) count
     ∙ written-back (e ∷ ds) (d - 48) (suc (19 - length (e ∷ ds))) [] r one
-    ∙ one-digit (19 - length (e ∷ ds)) (d - 48) ((e ∷ ds) ++ []) (omega (arith, x .high))
+    ∙ last-only (19 - length (e ∷ ds)) (d - 48) ((e ∷ ds) ++ []) (omega (arith, x .high))
     ∙ rw (append-nil (e ∷ ds), same)
 
 -- well-formed digits are what is written for their number

@@ -48,7 +48,8 @@ sample-below : (x : Slice) → eqb (length x) 7 ≡ true → sampleNumber (sampl
 unfolding sampleCheck
 sample-below x seven =
     rw seven
-    (by (all (leb (codeOf x 0) 4095 ∷ leb (codeOf x 1) 4095 ∷ leb (codeOf x 2) 4095 ∷ [])) (within 40000 80000 (frequency x)) (leb (permission x) 1) (all (leb (available x) 10000 ∷ leb (operatorLimit x) 10000 ∷ [])))
+    (by (all (leb (codeOf x 0) 4095 ∷ leb (codeOf x 1) 4095 ∷ leb (codeOf x 2) 4095 ∷ [])) (within 40000 80000 (frequency x)) (leb (permission x) 1)
+    (all (leb (available x) 10000 ∷ leb (operatorLimit x) 10000 ∷ [])))
   where
     by : (a b c d : Bool) → sampleNumber (unless a Code (unless b Frequency (unless c Permission (unless d Power SampleCheck.Accepted)))) ≤ 7
     by false b c d = omega arith

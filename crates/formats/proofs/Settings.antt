@@ -111,7 +111,8 @@ module _ (b : Bool) (r : Row) (first : nonNeg (r .firstLow) ≡ true) (second : 
   pairs-kept (p ∷ ps) e =
       let tests = both (inRow r p) (all (map (inRow r) ps)) e in
       let n = inside r p (tests .0) in
-      ap₂ (λ (q : Pair) (qs : List Pair). q ∷ qs) (ap₂ pair (unsigned (r .firstLow) (p .first) first (n .firstLow)) (sign-kept b (r .secondLow) (p .second) second (n .secondLow)))
+      ap₂ (λ (q : Pair) (qs : List Pair). q ∷ qs)
+      (ap₂ pair (unsigned (r .firstLow) (p .first) first (n .firstLow)) (sign-kept b (r .secondLow) (p .second) second (n .secondLow)))
       (pairs-kept ps (tests .1))
 
 line-kept : (k : Kept) (r : Row) (form : List ℕ) (ps : List Pair) → keeps k r form ≡ true → GoodLine r form ps

@@ -9,7 +9,8 @@ use native.Mathlib.Nat.{zero-add}
 use lib.ListN.{length, drop, length-map}
 use lib.Seq.{drop-append-seam}
 use Rattle.rules.specs.Tests.{all, within}
-use Rattle.rules.specs.Text.{decimal, signedDecimal, digitsBefore, leadingDigits, afterDigits, valueAfter, wellFormed, takeNumber, takeSigned, firstLine, hasFeed, afterLine}
+use Rattle.rules.specs.Text.{decimal, signedDecimal, digitsBefore, leadingDigits, afterDigits, valueAfter, wellFormed, takeNumber, takeSigned, firstLine}
+use Rattle.rules.specs.Text.{hasFeed, afterLine}
 use Rattle.rules.specs.Forms.{sheetForms, numbersOf}
 use Rattle.rules.specs.Settings.{rows, inRow, rising, pointPair, linesOf, settingsCheck, isAccepted, settingsAccepted}
 use Rattle.rules.specs.Sheets.{settingsOf, SheetReading, readFrom, readSheet}
@@ -36,7 +37,14 @@ was-accepted (SettingsCheck.Refused cause n) e = absurd (false≢true e)
 amounts : (st : Settings) → Complete st → map amount (linesOf st) ≡ map marks sheetForms
 unfolding linesOf sheetForms marks
 amounts st c =
-    rw (two-each (map pointPair (st .var)), length-map (st .var) pointPair, c .varPoints, two-each (map pointPair (st .watt)), length-map (st .watt) pointPair, c .wattPoints)
+    rw (
+      two-each (map pointPair (st .var)),
+      length-map (st .var) pointPair,
+      c .varPoints,
+      two-each (map pointPair (st .watt)),
+      length-map (st .watt) pointPair,
+      c .wattPoints,
+    )
 
 good-lines : (st : Settings) → Complete st → settingsAccepted st ≡ true → GoodLines rows sheetForms (linesOf st)
 unfolding settingsCheck

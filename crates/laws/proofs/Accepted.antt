@@ -11,7 +11,7 @@ use lib.ListN.{length, getD}
 use borrow.Author.Tests.{leb-true, eqb-true}
 use Rattle.rules.specs.Tests.{all}
 use Rattle.rules.specs.Sensing.{lastCode}
-use Rattle.rules.specs.Settings.{Pair, pair, Row, row, rows, inRow, rising, checkFrom, linesOf, settingsCheck, isAccepted, settingsAccepted, limitAt}
+use Rattle.rules.specs.Settings.{Pair, pair, Row, row, rows, inRow, rising, checkFrom, linesOf, settingsCheck, isAccepted, settingsAccepted, limitAt, sheetLines}
 use Rattle.rules.specs.Samples.{Slice, codeOf, frequency, permission, available, operatorLimit, unless, sampleCheck, sampleAccepted}
 use Rattle.rules.specs.Samples as samples
 use Rattle.rules.specs.declared.Settings.{Settings}
@@ -93,7 +93,7 @@ pub record Rows (st : Settings) : Type 0 where
   pub wait : InRow (rowAt 10) (st .wait) (st .ramp)
 
 -- line i of the thirteen
-pub sheet-line : (st : Settings) → settingsAccepted st ≡ true → (i : ℕ) → i < 13
+pub sheet-line : (st : Settings) → settingsAccepted st ≡ true → (i : ℕ) → i < sheetLines
     → LineRight (rowAt i) (getD (linesOf st) i [])
 unfolding settingsCheck rows linesOf
 sheet-line st e i h = line-at 1 rows (linesOf st) e i h h

@@ -7,7 +7,8 @@ use Prim.Native.Nat.{ℕ, suc}
 use Rattle.rules.specs.Settings.{settingsCheck, limitAt}
 use Rattle.rules.specs.Samples.{Slice, Equipment, codeOf, phase, lowest, highest, mean, sampleCheck}
 use Rattle.rules.specs.Samples as samples
-use Rattle.rules.specs.Counters.{Kind, undervoltage, overvoltage, underfrequency, overfrequency, kinds, counted, broken, inRange, limitRules, tripRules, readyRule, rules}
+use Rattle.rules.specs.Counters.{Kind, undervoltage, overvoltage, underfrequency, overfrequency, kinds, counted, broken, inRange, limitRules, tripRules}
+use Rattle.rules.specs.Counters.{readyRule, rules}
 use Rattle.rules.specs.Regions.{regionOf}
 use Rattle.rules.specs.Service.{varsOf, wattsOf}
 use Rattle.rules.specs.Records.{each, readAs, settled, ruled, next, shown, onSample, onSettings, stepOf}

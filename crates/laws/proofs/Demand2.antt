@@ -26,7 +26,8 @@ use Rattle.rules.specs.declared.SettingsCheck.{SettingsCheck}
 use Rattle.rules.specs.declared.SampleCheck.{SampleCheck}
 use Rattle.rules.specs.declared.Answer.{Answer}
 use Rattle.rules.specs.declared.Stepped.{Stepped}
-use Rattle.claims.specs.Calls.{Call, Run, ruledBy, freshReport, lastReport, called, calledAll, runOf, callAccepted, acceptedOne, acceptedAfter, acceptedSamples, LendsUnder, Under}
+use Rattle.claims.specs.Calls.{Call, Run, ruledBy, freshReport, lastReport, called, calledAll, runOf, callAccepted, acceptedOne, acceptedAfter}
+use Rattle.claims.specs.Calls.{acceptedSamples, LendsUnder, Under}
 use Rattle.claims.specs.Sound.{Sound}
 use Rattle.claims.specs.TripAndReturn.{recordOf, Next, TripAndReturn, CounterRule, Demand2}
 use Rattle.basics.proofs.Bools.{both}
@@ -94,7 +95,8 @@ module _ (e : Equipment) (st : Settings) where
           → after (at h) (stepOf e (recordOf e st h) (c .settings) (c .slice)) ≡ at (c .slice ∷ h)
       stepped q a d =
           ap (after (at h)) (accepted-step e (recordOf e st h) (c .settings) (c .slice) a d)
-          ∙ ap (λ (s : Settings). after (at h) (record { board = next e s (c .slice) (recordOf e st h); answer = Answer.Reported (reportOf (shown e s (next e s (c .slice) (recordOf e st h)))) })) q
+          ∙ ap (λ (s : Settings). after (at h)
+          (record { board = next e s (c .slice) (recordOf e st h); answer = Answer.Reported (reportOf (shown e s (next e s (c .slice) (recordOf e st h)))) })) q
           ∙ ap (λ (b : Board). after (at h) (record { board = b; answer = Answer.Reported (reportOf (shown e st b)) })) (next-is e st h (c .slice))
           ∙ ap (λ (i : Items). record { board = recordOf e st (c .slice ∷ h); report = reportOf i }) (shown-is e st (c .slice ∷ h))
 
@@ -155,7 +157,8 @@ module _ (e : Equipment) (st : Settings) where
     unfolding reportOf historyReport
     statuses-before cs u = ap (λ (r : Run). r .report .status) (run-is cs u)
 
-    statuses-now : (cs : List Call) (c : Call) → Next st cs c → called (ruledBy e) (runOf (ruledBy e) cs) c .report .status ≡ historyStatus e st (c .slice ∷ acceptedSamples cs)
+    statuses-now : (cs : List Call) (c : Call) → Next st cs c
+        → called (ruledBy e) (runOf (ruledBy e) cs) c .report .status ≡ historyStatus e st (c .slice ∷ acceptedSamples cs)
     unfolding reportOf historyReport
     statuses-now cs c n = ap (λ (r : Run). r .report .status) (run-next cs c n)
 
@@ -174,7 +177,8 @@ module _ (e : Equipment) (st : Settings) where
     claims-hold sound =
         record {
           shows = λ cs u. ap (λ (r : Run). r .report) (run-is cs u);
-          answers = λ cs c n. ap (λ (r : Run). stepOf e (r .board) (c .settings) (c .slice) .answer) (run-is cs (n .under)) ∙ answer-is (acceptedSamples cs) c (n .lends) (n .accepted);
+          answers = λ cs c n. ap (λ (r : Run). stepOf e (r .board) (c .settings) (c .slice) .answer) (run-is cs (n .under))
+              ∙ answer-is (acceptedSamples cs) c (n .lends) (n .accepted);
           refuses = λ cs c u. step-number e (runOf (ruledBy e) cs .board) (c .settings) (c .slice);
           keeps = λ cs u. ap (λ (r : Run). r .board) (run-is cs u);
           trips = λ cs c n p.
@@ -183,11 +187,14 @@ module _ (e : Equipment) (st : Settings) where
               ((λ q. l .0 (tripped-of (c .slice ∷ h) (sym (statuses-now cs c n) ∙ q))), (λ q. statuses-now cs c n ∙ tripped-status (c .slice ∷ h) (l .1 q)));
           returns = λ cs c n p.
               let h = acceptedSamples cs in
-              let l = return-law e st h (c .slice) (tripped-of h (sym (statuses-before cs (n .under)) ∙ p)) in
-              ((λ q. l .0 (sym (service-of (c .slice ∷ h)) ∙ ap inService (sym (statuses-now cs c n)) ∙ q)), (λ q. ap inService (statuses-now cs c n) ∙ service-of (c .slice ∷ h) ∙ l .1 q));
+              let l = return-law e st h (c .slice) (tripped-of h (sym (statuses-before cs (n .under)) ∙ p)) in (
+                (λ q. l .0 (sym (service-of (c .slice ∷ h)) ∙ ap inService (sym (statuses-now cs c n)) ∙ q)),
+                (λ q. ap inService (statuses-now cs c n) ∙ service-of (c .slice ∷ h) ∙ l .1 q),
+              );
           returns-continuous = λ cs c n p q.
               let h = acceptedSamples cs in
-              return-continuous e st sound ok h (c .slice) (tripped-of h (sym (statuses-before cs (n .under)) ∙ p)) (sym (service-of (c .slice ∷ h)) ∙ ap inService (sym (statuses-now cs c n)) ∙ q);
+              return-continuous e st sound ok h (c .slice) (tripped-of h (sym (statuses-before cs (n .under)) ∙ p))
+              (sym (service-of (c .slice ∷ h)) ∙ ap inService (sym (statuses-now cs c n)) ∙ q);
         }
 
 -- the counter rule, for an arbitrary rule

@@ -121,15 +121,18 @@ ladder true true true true true = refl
 sample-number : (x : Slice) → sampleNumber (sampleCheck x) ≡ first (sampleCauses x)
 unfolding sampleCheck
 sample-number x =
-    ladder (eqb (length x) 7) (all (leb (codeOf x 0) 4095 ∷ leb (codeOf x 1) 4095 ∷ leb (codeOf x 2) 4095 ∷ [])) (within 40000 80000 (frequency x)) (leb (permission x) 1) (all (leb (available x) 10000 ∷ leb (operatorLimit x) 10000 ∷ []))
+    ladder (eqb (length x) 7) (all (leb (codeOf x 0) 4095 ∷ leb (codeOf x 1) 4095 ∷ leb (codeOf x 2) 4095 ∷ [])) (within 40000 80000 (frequency x))
+    (leb (permission x) 1) (all (leb (available x) 10000 ∷ leb (operatorLimit x) 10000 ∷ []))
     ∙ steps
-    (not-three (leb (codeOf x 0) 4095) (leb (codeOf x 1) 4095) (leb (codeOf x 2) 4095) ∙ ap₂ _||_ (above (codeOf x 0) 4095) (ap₂ _||_ (above (codeOf x 1) 4095) (above (codeOf x 2) 4095)))
+    (not-three (leb (codeOf x 0) 4095) (leb (codeOf x 1) 4095) (leb (codeOf x 2) 4095)
+    ∙ ap₂ _||_ (above (codeOf x 0) 4095) (ap₂ _||_ (above (codeOf x 1) 4095) (above (codeOf x 2) 4095)))
     (not-within 40000 80000 (frequency x))
     (above (permission x) 1)
     (not-two (leb (available x) 10000) (leb (operatorLimit x) 10000) ∙ ap₂ _||_ (above (available x) 10000) (above (operatorLimit x) 10000))
   where
     steps : {b b′ c c′ d d′ p p′ : Bool} → b ≡ b′ → c ≡ c′ → d ≡ d′ → p ≡ p′
-        → _≡_ {A = ℕ} (cond (not (eqb (length x) 7)) 8 (cond b 4 (cond c 5 (cond d 6 (cond p 7 0))))) (cond (not (eqb (length x) 7)) 8 (cond b′ 4 (cond c′ 5 (cond d′ 6 (cond p′ 7 0)))))
+        → _≡_ {A = ℕ} (cond (not (eqb (length x) 7)) 8 (cond b 4 (cond c 5 (cond d 6 (cond p 7 0)))))
+        (cond (not (eqb (length x) 7)) 8 (cond b′ 4 (cond c′ 5 (cond d′ 6 (cond p′ 7 0)))))
     steps e₁ e₂ e₃ e₄ = rw (e₁, e₂, e₃, e₄)
 
 -- ---- the step

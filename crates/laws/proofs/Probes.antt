@@ -97,12 +97,24 @@ module _ (e : Equipment) (sound : Sound e) where
     where
       by : (b : Bool) → ltb (e .sensing 0) n ≡ b
           → ((x : Slice) × (sampleAccepted x ≡ true) × (ltb (lowest e x) n ≡ true)) ⊎ ((x : Slice) → sampleAccepted x ≡ true → ltb (lowest e x) n ≡ false)
-      by true t = inl (flat 0 60000, flat-accepted 0 60000 (omega arith) (omega arith) (omega arith), lt-ltb (lowest e (flat 0 60000)) n (omega (arith, ltb-true (e .sensing 0) n t)))
+      by true t = inl (
+        flat 0 60000,
+        flat-accepted 0 60000 (omega arith) (omega arith) (omega arith),
+        lt-ltb (lowest e (flat 0 60000)) n (omega (arith, ltb-true (e .sensing 0) n t)),
+      )
       by false t =
           inr
-          (λ x a. let s = sample-right x a in le-ltb (lowest e x) n (omega (arith, ltb-false (e .sensing 0) n t, sound .least _ (s .code0), sound .least _ (s .code1), sound .least _ (s .code2))))
+          (λ x a. let s = sample-right x a in le-ltb (lowest e x) n
+          (omega (arith, ltb-false (e .sensing 0) n t, sound .least _ (s .code0), sound .least _ (s .code1), sound .least _ (s .code2))))
   limit-tellable overvoltage n c i l =
-      record { reach = l; probe = inl (flat lastCode 60000, flat-accepted lastCode 60000 (omega arith) (omega arith) (omega arith), lt-ltb n (highest e (flat lastCode 60000)) (omega (arith, sound .above))) }
+      record {
+        reach = l;
+        probe = inl (
+          flat lastCode 60000,
+          flat-accepted lastCode 60000 (omega arith) (omega arith) (omega arith),
+          lt-ltb n (highest e (flat lastCode 60000)) (omega (arith, sound .above)),
+        );
+      }
   limit-tellable underfrequency n c i l =
       record { reach = l; probe = inl (flat 0 40000, flat-accepted 0 40000 (omega arith) (omega arith) (omega arith), lt-ltb 40000 n (omega arith)) }
   limit-tellable overfrequency n c i l =

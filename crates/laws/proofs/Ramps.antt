@@ -69,7 +69,9 @@ module _ (e : Equipment) (sound : Sound e) (st : Settings) (ok : settingsAccepte
           → shareOf st (min (st .ramp) (k + climbed e st h)) ≡ shareOf st (min (st .ramp) (k + climbed e st g))
       at p k l =
           ap (λ (n : ℕ). shareOf st (min (st .ramp) n)) (sym (climb-run k h p))
-          ∙ ap (λ (r : Items). r .share) (f (replicate k (calm e sound)) (subst (λ (n : ℕ). n ≤ 100000) (sym (length-replicate k (calm e sound))) l) (accepted-run (calm e sound) (calm-accepted e sound) k))
+          ∙ ap (λ (r : Items). r .share)
+          (f (replicate k (calm e sound)) (subst (λ (n : ℕ). n ≤ 100000) (sym (length-replicate k (calm e sound))) l)
+          (accepted-run (calm e sound) (calm-accepted e sound) k))
           ∙ ap (λ (n : ℕ). shareOf st (min (st .ramp) n)) (climb-run k g (sym o ∙ p))
 
       by : (b : Bool) → serving e st h ≡ b → min (st .ramp) (climbed e st h) ≡ min (st .ramp) (climbed e st g)

@@ -14,14 +14,15 @@ use lib.Dec.{eqb}
 use lib.IntN.{ℤ}
 use lib.ListN.{length, drop, length-drop}
 use lib.Seq.{drop-drop}
+use Rattle.basics.proofs.Refusals.{number-bounds}
 use Rattle.rules.specs.Tests.{all}
 use Rattle.rules.specs.Text.{feed, firstLine, hasFeed, afterLine}
 use Rattle.rules.specs.Forms.{sheetForms, numbersOf}
-use Rattle.rules.specs.Settings.{Pair, Row, rows, inRow, rising, lineCheck}
+use Rattle.rules.specs.Settings.{Pair, Row, rows, inRow, rising, lineCheck, sheetLines}
 use Rattle.rules.specs.Refusals.{refusalNumber, settingsNumber, lineOf}
 use Rattle.rules.specs.Sheets.{SheetReading, pairs, settingsOf, refusedAt, onNumbers, readFrom, readSheet, partOf, handedBack}
 use Rattle.rules.specs.declared.Refusal.{Refusal}
-use Rattle.rules.specs.declared.Refusal.the-variants.{Form, Range, Rise, Code, Frequency, Permission, Power, Sample, Buffer}
+use Rattle.rules.specs.declared.Refusal.the-variants.{Form, Range, Rise}
 use Rattle.rules.specs.declared.SettingsCheck.{SettingsCheck}
 use Rattle.claims.specs.FirstCause.{first}
 use Rattle.claims.specs.SheetCauses.{fromLine, numbersBy, causesBy, pairsBy, causeAt, lineCause, linePairs, FirstCauseAt, SheetsRefusedRightly}
@@ -67,15 +68,18 @@ module _ (n start : ℕ) (r : Row) (t : List ℕ) (next : List Pair → SheetRea
       by true f none = omega arith
       by true f (some ns) = checked-inside (pairs ns) (ih f (pairs ns))
 
-ends-inside : (n start : ℕ) (read : List (List Pair)) (rs : List Row) (forms : List (List ℕ)) (t : List ℕ) → readFrom n start read rs forms t .start ≤ start + length t
+ends-inside : (n start : ℕ) (read : List (List Pair)) (rs : List Row) (forms : List (List ℕ)) (t : List ℕ)
+    → readFrom n start read rs forms t .start ≤ start + length t
 unfolding readFrom
 ends-inside n start read [] forms t = omega arith
 ends-inside n start read (r ∷ rs) [] t = omega arith
 ends-inside n start read (r ∷ rs) (form ∷ forms) t =
-    line-inside n start r t _ (λ f ps. later f ps (ends-inside (suc n) (start + length (firstLine t) + 1) (read ++ (ps ∷ [])) rs forms (afterLine t))) (numbersOf form (firstLine t))
+    line-inside n start r t _ (λ f ps. later f ps (ends-inside (suc n) (start + length (firstLine t) + 1) (read ++ (ps ∷ [])) rs forms (afterLine t)))
+    (numbersOf form (firstLine t))
   where
     later : hasFeed t ≡ true → (ps : List Pair)
-        → readFrom (suc n) (start + length (firstLine t) + 1) (read ++ (ps ∷ [])) rs forms (afterLine t) .start ≤ start + length (firstLine t) + 1 + length (afterLine t)
+        → readFrom (suc n) (start + length (firstLine t) + 1) (read ++ (ps ∷ [])) rs forms (afterLine t) .start ≤ start + length
+        (firstLine t) + 1 + length (afterLine t)
         → readFrom (suc n) (start + length (firstLine t) + 1) (read ++ (ps ∷ [])) rs forms (afterLine t) .start ≤ start + length t
     later f ps h = omega (arith, h, after-length t f)
 
@@ -127,7 +131,8 @@ module _ (s : List ℕ) where
           reading = ap (λ (k : ℕ). refusedAt why k start) (omega arith);
         }
 
-    stops-later : (ps : List Pair) → causeAt (r ∷ rs) (form ∷ forms) 0 t ≡ 0 → Stops (suc n) rs forms (afterLine t) (next ps) → Stops n (r ∷ rs) (form ∷ forms) t (next ps)
+    stops-later : (ps : List Pair) → causeAt (r ∷ rs) (form ∷ forms) 0 t ≡ 0 → Stops (suc n) rs forms (afterLine t) (next ps)
+        → Stops n (r ∷ rs) (form ∷ forms) t (next ps)
     stops-later ps clear x =
         record {
           j = suc (x .j);
@@ -144,14 +149,17 @@ module _ (s : List ℕ) where
         earlier zero h = clear
         earlier (suc k) h = x .before k (omega (arith, h))
 
-    ends-later : (ps : List Pair) → pairsBy (numbersBy form t) ≡ ps → causeAt (r ∷ rs) (form ∷ forms) 0 t ≡ 0 → Ends (read ++ (ps ∷ [])) rs forms (afterLine t) (next ps)
+    ends-later : (ps : List Pair) → pairsBy (numbersBy form t) ≡ ps → causeAt (r ∷ rs) (form ∷ forms) 0 t ≡ 0
+        → Ends (read ++ (ps ∷ [])) rs forms (afterLine t) (next ps)
         → Ends read (r ∷ rs) (form ∷ forms) t (next ps)
     ends-later ps e clear x =
         record {
           start = x .start;
           clear = each;
           place = x .place;
-          reading = x .reading ∙ ap (λ (lines : List (List Pair)). acceptedAt lines (x .start)) (append-assoc read (ps ∷ []) (pairsFrom forms (afterLine t)) ∙ ap (λ (p : List Pair). read ++ (p ∷ pairsFrom forms (afterLine t))) (sym e));
+          reading = x .reading
+              ∙ ap (λ (lines : List (List Pair)). acceptedAt lines (x .start))
+              (append-assoc read (ps ∷ []) (pairsFrom forms (afterLine t)) ∙ ap (λ (p : List Pair). read ++ (p ∷ pairsFrom forms (afterLine t))) (sym e));
         }
       where
         each : (k : ℕ) → k < suc (length rs) → causeAt (r ∷ rs) (form ∷ forms) k t ≡ 0
@@ -183,14 +191,21 @@ module _ (s : List ℕ) where
       → Either n read rs forms t (readFrom n start read rs forms t)
   unfolding readFrom
   reads-from n start read [] [] t l p =
-      inr (record { start = start; clear = λ k h. absurd (omega (arith, h)); place = p; reading = ap (λ (lines : List (List Pair)). acceptedAt lines start) (sym (append-nil read)) })
+      inr (record {
+        start = start;
+        clear = λ k h. absurd (omega (arith, h));
+        place = p;
+        reading = ap (λ (lines : List (List Pair)). acceptedAt lines start) (sym (append-nil read));
+      })
   reads-from n start read [] (form ∷ forms) t l p = absurd (omega (arith, l))
   reads-from n start read (r ∷ rs) [] t l p = absurd (omega (arith, l))
   reads-from n start read (r ∷ rs) (form ∷ forms) t l p =
-      on-line n start read r rs form forms t p _ (λ ps. reads-from (suc n) (start + length (firstLine t) + 1) (read ++ (ps ∷ [])) rs forms (afterLine t) (omega (arith, l)) on)
+      on-line n start read r rs form forms t p _
+      (λ ps. reads-from (suc n) (start + length (firstLine t) + 1) (read ++ (ps ∷ [])) rs forms (afterLine t) (omega (arith, l)) on)
     where
       on : drop (start + length (firstLine t) + 1) s ≡ afterLine t
-      on = ap (λ (k : ℕ). drop k s) (add-assoc start (length (firstLine t)) 1) ∙ sym (drop-drop (length (firstLine t) + 1) start s) ∙ ap (drop (length (firstLine t) + 1)) p ∙ after-drop t
+      on = ap (λ (k : ℕ). drop k s) (add-assoc start (length (firstLine t)) 1) ∙ sym (drop-drop (length (firstLine t) + 1) start s)
+          ∙ ap (drop (length (firstLine t) + 1)) p ∙ after-drop t
 
   reads : Either 1 [] rows sheetForms s (readSheet s)
   unfolding readSheet rows sheetForms
@@ -198,24 +213,13 @@ module _ (s : List ℕ) where
 
   -- ---- what the statements need of it
 
-  many : length rows ≡ 13
+  many : length rows ≡ sheetLines
   unfolding rows
   many = refl
 
   lines-read : pairsFrom sheetForms s ≡ map (λ i. linePairs i s) (0 ∷ 1 ∷ 2 ∷ 3 ∷ 4 ∷ 5 ∷ 6 ∷ 7 ∷ 8 ∷ 9 ∷ 10 ∷ 11 ∷ 12 ∷ [])
   unfolding sheetForms linePairs
   lines-read = refl
-
-  positive : (why : Refusal) → 0 < refusalNumber why
-  positive Form = omega arith
-  positive Range = omega arith
-  positive Rise = omega arith
-  positive Code = omega arith
-  positive Frequency = omega arith
-  positive Permission = omega arith
-  positive Power = omega arith
-  positive Sample = omega arith
-  positive Buffer = omega arith
 
   module _ (x : Stops 1 rows sheetForms s (readSheet s)) where
     number : settingsNumber (readSheet s .check) ≡ refusalNumber (x .why)
@@ -225,7 +229,7 @@ module _ (s : List ℕ) where
     at-line = ap (λ (r : SheetReading). lineOf (r .check)) (x .reading) ∙ omega arith
 
     not-accepted : readSheet s .check ≡ SettingsCheck.Accepted → ⊥
-    not-accepted e = omega (arith, positive (x .why), sym number ∙ ap settingsNumber e)
+    not-accepted e = omega (arith, number-bounds (x .why) .0, sym number ∙ ap settingsNumber e)
 
     -- it is the first line with a cause
     found : FirstCauseAt s (x .j) (refusalNumber (x .why))
@@ -239,14 +243,14 @@ module _ (s : List ℕ) where
       where
         by : Dec (i ≤ x .j) → Dec (x .j ≤ i) → x .j ≡ i
         by (yes a) (yes b) = omega (arith, a, b)
-        by (no a) b = absurd (omega (arith, positive (x .why), x .here, f .before (x .j) (omega (arith, a))))
+        by (no a) b = absurd (omega (arith, number-bounds (x .why) .0, x .here, f .before (x .j) (omega (arith, a))))
         by (yes a) (no b) = absurd (omega (arith, h, f .here, x .before i (omega (arith, b))))
 
   module _ (x : Ends [] rows sheetForms s (readSheet s)) where
     accepted : readSheet s .check ≡ SettingsCheck.Accepted
     accepted = ap (λ (r : SheetReading). r .check) (x .reading)
 
-    no-cause : (i : ℕ) → i < 13 → lineCause i s ≡ 0
+    no-cause : (i : ℕ) → i < sheetLines → lineCause i s ≡ 0
     unfolding lineCause
     no-cause i h = x .clear i (omega (arith, h, many))
 
@@ -261,7 +265,8 @@ module _ (s : List ℕ) where
       there : (settingsNumber (readSheet s .check) ≡ n) × (lineOf (readSheet s .check) ≡ i + 1) → FirstCauseAt s i n
       there e =
           ⊎-elim
-          (λ x. subst (λ (k : ℕ). FirstCauseAt s i k) (sym (number x) ∙ e .0) (subst (λ (k : ℕ). FirstCauseAt s k (refusalNumber (x .why))) (omega (arith, at-line x, e .1)) (found x)))
+          (λ x. subst (λ (k : ℕ). FirstCauseAt s i k) (sym (number x) ∙ e .0)
+          (subst (λ (k : ℕ). FirstCauseAt s k (refusalNumber (x .why))) (omega (arith, at-line x, e .1)) (found x)))
           (λ x. absurd (omega (arith, h, e .0, ap settingsNumber (accepted x))))
           reads
 
@@ -272,13 +277,14 @@ module _ (s : List ℕ) where
           (λ x. absurd (none-found x i n h f))
           reads
 
-  accepts : (readSheet s .check ≡ SettingsCheck.Accepted) ↔ ((i : ℕ) → i < 13 → lineCause i s ≡ 0)
+  accepts : (readSheet s .check ≡ SettingsCheck.Accepted) ↔ ((i : ℕ) → i < sheetLines → lineCause i s ≡ 0)
   accepts = (λ e. ⊎-elim (λ x. absurd (not-accepted x e)) no-cause reads, λ clear. ⊎-elim (λ x. absurd (caught clear x)) accepted reads)
     where
-      caught : ((i : ℕ) → i < 13 → lineCause i s ≡ 0) → Stops 1 rows sheetForms s (readSheet s) → ⊥
-      caught clear x = omega (arith, positive (x .why), found x .here, clear (x .j) (found x .line))
+      caught : ((i : ℕ) → i < sheetLines → lineCause i s ≡ 0) → Stops 1 rows sheetForms s (readSheet s) → ⊥
+      caught clear x = omega (arith, number-bounds (x .why) .0, found x .here, clear (x .j) (found x .line))
 
-  settings : readSheet s .check ≡ SettingsCheck.Accepted → readSheet s .settings ≡ settingsOf (map (λ i. linePairs i s) (0 ∷ 1 ∷ 2 ∷ 3 ∷ 4 ∷ 5 ∷ 6 ∷ 7 ∷ 8 ∷ 9 ∷ 10 ∷ 11 ∷ 12 ∷ []))
+  settings : readSheet s .check ≡ SettingsCheck.Accepted
+      → readSheet s .settings ≡ settingsOf (map (λ i. linePairs i s) (0 ∷ 1 ∷ 2 ∷ 3 ∷ 4 ∷ 5 ∷ 6 ∷ 7 ∷ 8 ∷ 9 ∷ 10 ∷ 11 ∷ 12 ∷ []))
   settings e = ⊎-elim (λ x. absurd (not-accepted x e)) (λ x. ap (λ (r : SheetReading). r .settings) (x .reading) ∙ ap settingsOf lines-read) reads
 
   no-settings : 0 < settingsNumber (readSheet s .check) → readSheet s .settings ≡ settingsOf []
@@ -309,7 +315,7 @@ module _ (s : List ℕ) where
   back : (i n : ℕ) → 0 < n → FirstCauseAt s i n → handedBack s ≡ firstLine (fromLine i s)
   back i n h f = refused-part (omega (arith, h, refuses i n h .1 f .0)) ∙ ap firstLine (place i n h f)
 
-  rest : readSheet s .check ≡ SettingsCheck.Accepted → handedBack s ≡ fromLine 13 s
+  rest : readSheet s .check ≡ SettingsCheck.Accepted → handedBack s ≡ fromLine sheetLines s
   unfolding handedBack
   rest e =
       ⊎-elim
@@ -318,4 +324,14 @@ module _ (s : List ℕ) where
       reads
 
 pub sheets-refused-rightly : SheetsRefusedRightly
-sheets-refused-rightly = record { refuses = refuses; accepts = accepts; settings = settings; no-settings = no-settings; place = place; inside = inside; missing = missing; back = back; rest = rest }
+sheets-refused-rightly = record {
+  refuses = refuses;
+  accepts = accepts;
+  settings = settings;
+  no-settings = no-settings;
+  place = place;
+  inside = inside;
+  missing = missing;
+  back = back;
+  rest = rest;
+}

@@ -33,6 +33,15 @@ service-status true Mandatory f = refl
 service-status true Momentary f = refl
 service-status true Cease f = refl
 
+-- a status that is read as tripped is not in service, and one that is kept is
+pub kept-service : (status : ℕ) → inService (cond (inService status) status 0) ≡ inService status
+unfolding within
+kept-service status = by (inService status) refl
+  where
+    by : (b : Bool) → inService status ≡ b → inService (cond b status 0) ≡ b
+    by true p = p
+    by false p = refl
+
 module _ (e : Equipment) (st : Settings) where
   -- ---- what the record holds, read off the history
 
@@ -64,14 +73,7 @@ module _ (e : Equipment) (st : Settings) where
 
   read-service : (h : History) → inService (readAs e st (recordOf e st h) .status) ≡ serving e st h
   unfolding readAs within
-  read-service h = kept (recordOf e st h .status) ∙ service-is h
-    where
-      by : (s : ℕ) (b : Bool) → inService s ≡ b → inService (cond b s 0) ≡ b
-      by s true p = p
-      by s false p = refl
-
-      kept : (s : ℕ) → inService (cond (inService s) s 0) ≡ inService s
-      kept s = by s (inService s) refl
+  read-service h = kept-service (recordOf e st h .status) ∙ service-is h
 
   read-ramp : (h : History) → readAs e st (recordOf e st h) .ramp ≡ min (st .ramp) (climbed e st h)
   unfolding readAs
@@ -90,7 +92,8 @@ module _ (e : Equipment) (st : Settings) where
   ramp-step true true false top n = omega arith
 
   -- the rules look at three parts of a record: its counters, whether it is in service, and its ramp
-  ruled-is : (b : Board) (h : History) (x : Slice) → b .counters ≡ map (countOf h) (rules e st) → inService (b .status) ≡ serving e st h → b .ramp ≡ min (st .ramp) (climbed e st h)
+  ruled-is : (b : Board) (h : History) (x : Slice) → b .counters ≡ map (countOf h) (rules e st) → inService (b .status) ≡ serving e st h
+      → b .ramp ≡ min (st .ramp) (climbed e st h)
       → ruled e st x b ≡ recordOf e st (x ∷ h)
   unfolding ruled recordOf serving climbed
   ruled-is b h x e₁ e₂ e₃ =
@@ -99,7 +102,8 @@ module _ (e : Equipment) (st : Settings) where
       let ts : each full (tripRules e st) (map (countOf (x ∷ h)) (rules e st)) ≡ map (complete (x ∷ h)) (tripRules e st)
       = each-of full (complete (x ∷ h)) (x ∷ h) (full-is (x ∷ h)) (tripRules e st) (readyRule e st ∷ []) in
       rw (cs, e₂, e₃, ts, full-is (x ∷ h) (readyRule e st))
-      (ap (settled e st x (map (countOf (x ∷ h)) (rules e st)) (serving e st (x ∷ h))) (ramp-step (serving e st h) (serving e st (x ∷ h)) (isContinuous (regionOf e x)) (st .ramp) (climbed e st h)))
+      (ap (settled e st x (map (countOf (x ∷ h)) (rules e st)) (serving e st (x ∷ h)))
+      (ramp-step (serving e st h) (serving e st (x ∷ h)) (isContinuous (regionOf e x)) (st .ramp) (climbed e st h)))
 
   pub next-is : (h : History) (x : Slice) → next e st x (recordOf e st h) ≡ recordOf e st (x ∷ h)
   unfolding next
@@ -125,7 +129,8 @@ module _ (e : Equipment) (st : Settings) where
   pub shown-is : (h : History) → shown e st (recordOf e st h) ≡ historyReport e st h
   unfolding shown historyReport historyShare
   shown-is h =
-      made _ _ _ _ _ _ _ _ _ _ (status-is h) (ap (each full (rules e st)) (counters-are h) ∙ each-all full (complete h) h (full-is h) (rules e st)) (ap (shareOf st) (ramp-is h)) (watts-is h) (vars-is h)
+      made _ _ _ _ _ _ _ _ _ _ (status-is h) (ap (each full (rules e st)) (counters-are h) ∙ each-all full (complete h) h (full-is h) (rules e st))
+      (ap (shareOf st) (ramp-is h)) (watts-is h) (vars-is h)
     where
       made : (s s′ : ℕ) (b b′ : List Bool) (q q′ w w′ : ℕ) (v v′ : ℤ) → s ≡ s′ → b ≡ b′ → q ≡ q′ → w ≡ w′ → v ≡ v′
           → _≡_ {A = Items} (record { status = s; bits = b; share = q; watts = w; vars = v }) (record { status = s′; bits = b′; share = q′; watts = w′; vars = v′ })

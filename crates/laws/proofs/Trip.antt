@@ -154,5 +154,6 @@ module _ (e : Equipment) (st : Settings) where
   unfolding inRange regionOf
   in-range-continuous sound ok x p = continuous-in st ok (permitted x) (lowest e x) (highest e x) (frequency x) p (e .region) (sound .continuous)
 
-  pub return-continuous : Sound e → settingsAccepted st ≡ true → (h : History) (x : Slice) → serving e st h ≡ false → serving e st (x ∷ h) ≡ true → regionOf e x ≡ Continuous
+  pub return-continuous : Sound e → settingsAccepted st ≡ true → (h : History) (x : Slice) → serving e st h ≡ false → serving e st (x ∷ h) ≡ true
+      → regionOf e x ≡ Continuous
   return-continuous sound ok h x p q = in-range-continuous sound ok x (return-law h x p .0 q .throughout 0 (omega arith))

@@ -11,6 +11,7 @@ use lib.Arith.{mod-mul}
 use lib.ListN.{length, length-append}
 use mir.Syntax.{w64}
 use mir.Val.{Fits}
+use Rattle.basics.proofs.Digits.{last-only}
 use Rattle.rules.specs.Text.{digitsBefore, decimal}
 use Rattle.lines.specs.Pieces.{twoDigits}
 
@@ -25,10 +26,6 @@ either {A} n one more = by (decLe 10 n)
     by : Dec (10 ≤ n) → A
     by (yes le) = more le
     by (no gt) = one (lt-of-not-le gt)
-
-last-only : (k n : ℕ) (after : List ℕ) → n < 10 → digitsBefore (suc k) n after ≡ (48 + n) ∷ after
-unfolding digitsBefore
-last-only k n after h = rw (lt-ltb n 10 h)
 
 -- the last digit, with those of the quotient before it
 last-then : (k n : ℕ) (after : List ℕ) → 10 ≤ n → digitsBefore (suc k) n after ≡ digitsBefore k (n / 10) ((48 + n % 10) ∷ after)

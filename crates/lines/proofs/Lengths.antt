@@ -5,15 +5,15 @@ use mathlib.Core.List.{List, [], _∷_}
 use Prim.Native.Nat.{ℕ, zero, suc, _+_, _*_, _/_, _^_, _≤_, _<_}
 use native.Mathlib.Nat.{suc-mul}
 use native.Mathlib.Omega.{arith}
-use lib.Dec.{lit<, lit≤}
+use lib.Dec.{lit≤}
 use lib.IntN.{ℤ, pos, negsuc, natAbs}
 use lib.ListN.{length, length-append}
+use Rattle.basics.proofs.Refusals.{number-bounds}
 use Rattle.rules.specs.Refusals.{refusalNumber}
 use Rattle.rules.specs.Text.{signedDecimal}
 use Rattle.rules.specs.Transcripts.{bitDigits, spaced, reportNumbers, spacedNumbers, reportLine, refusedLine}
 use Rattle.rules.specs.declared.Report.{Report}
 use Rattle.rules.specs.declared.Refusal.{Refusal}
-use Rattle.rules.specs.declared.Refusal.the-variants.{Form, Range, Rise, Code, Frequency, Permission, Power, Sample, Buffer}
 use Rattle.lines.specs.Pieces.{statusWord, reportHead, headRoom}
 use Rattle.lines.proofs.Decimals.{decimal-length}
 use Rattle.lines.proofs.Whole.{report-whole}
@@ -57,17 +57,6 @@ head-length : (r : Report) → length (reportHead r) ≤ headRoom
 unfolding reportHead
 head-length r = simp length-append (omega (arith, word-length (r .status), bits-length 9 (r .bits)))
 
-pub refusal-below : (cause : Refusal) → refusalNumber cause < 10
-refusal-below Form = lit< tt
-refusal-below Range = lit< tt
-refusal-below Rise = lit< tt
-refusal-below Code = lit< tt
-refusal-below Frequency = lit< tt
-refusal-below Permission = lit< tt
-refusal-below Power = lit< tt
-refusal-below Sample = lit< tt
-refusal-below Buffer = lit< tt
-
 -- ---- whole lines
 
 pub report-length : (r : Report) → AllShort 4 (reportNumbers r) → length (reportLine r) ≤ 64
@@ -78,5 +67,5 @@ report-length r short =
 pub refused-length : (cause : Refusal) (line : ℕ) → line < 10 ^ 20 → length (refusedLine cause line) ≤ 64
 unfolding refusedLine
 refused-length cause line h =
-    let small : refusalNumber cause < 10 ^ 20 = omega (arith, refusal-below cause) in
+    let small : refusalNumber cause < 10 ^ 20 = omega (arith, number-bounds cause .1) in
     simp length-append (omega (arith, numbers-length 19 (pos (refusalNumber cause) ∷ pos line ∷ []) (small, (h, tt))))

@@ -44,5 +44,6 @@ module _ (vars : ℤ) (small : natAbs vars ≤ 10000) where
   -- and one that does not fit is not below it
   pub power-over : (p : ℕ) → 100000000 < p * p + used → nameplate vars ≡ min p (nameplate vars)
   power-over p h =
-      let less : 100000000 - used < (p + 1) * (p + 1) = omega (arith, used-small, mul-le-mul {n₁ = p} {m₁ = p} {n₂ = p + 1} {m₂ = p + 1} (omega arith) (omega arith)) in
+      let less : 100000000 - used < (p + 1) * (p + 1)
+      = omega (arith, used-small, mul-le-mul {n₁ = p} {m₁ = p} {n₂ = p + 1} {m₂ = p + 1} (omega arith) (omega arith)) in
       omega (arith, root-below (nameplate vars) p (100000000 - used) (nameplate-root .low) less)

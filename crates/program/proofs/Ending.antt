@@ -45,7 +45,8 @@ module _ (e : Equipment) where
       by-feed : isDone q ≡ false → (k : Bool) → hasFeed t ≡ k → doneAfter e q (linesIn (s ++ t)) ≡ doneAfter e (dropping q (length s)) (linesIn t)
       by-feed p true f =
           done-fed q (s ++ t) (plain-feed s t plain ∙ f)
-          ∙ rw (plain-line s t plain, plain-after s t plain, dropped-said e q s (q .overlong) refl overlong (firstLine t) p) (sym (done-fed (dropping q (length s)) t f))
+          ∙ rw (plain-line s t plain, plain-after s t plain, dropped-said e q s (q .overlong) refl overlong (firstLine t) p)
+          (sym (done-fed (dropping q (length s)) t f))
       by-feed p false f = done-unfed q (s ++ t) (plain-feed s t plain ∙ f) ∙ sym (done-unfed (dropping q (length s)) t f)
 
       by-done : (k : Bool) → isDone q ≡ k → doneAfter e q (linesIn (s ++ t)) ≡ doneAfter e (dropping q (length s)) (linesIn t)

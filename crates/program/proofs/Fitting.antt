@@ -78,7 +78,8 @@ sensible-fit q e =
 pub fit-sensible : (q : State) (n : ℕ) → Fit q n → sensible q ≡ true
 unfolding sensible
 fit-sensible q n f =
-    rw (le-leb 1 (q .line) (f .from-one), le-leb (q .line) (q .taken + 1) (f .low), le-leb (q .taken) inputEnd (omega (arith, f .high))) (by (readsSheet q) (f .sheet))
+    rw (le-leb 1 (q .line) (f .from-one), le-leb (q .line) (q .taken + 1) (f .low), le-leb (q .taken) inputEnd (omega (arith, f .high)))
+    (by (readsSheet q) (f .sheet))
   where
     by : (k : Bool) → (k ≡ true → q .line ≤ sheetLines) → (not k || leb (q .line) sheetLines) ≡ true
     by true p = le-leb (q .line) sheetLines (p refl)

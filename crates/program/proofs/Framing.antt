@@ -5,7 +5,6 @@ use mathlib.Core.Bool.{Bool, true, false, cond, _||_, false≢true}
 use mathlib.Core.List.{List, [], _∷_, _++_, append-nil}
 use Prim.Native.Nat.{ℕ, zero, suc, _+_}
 use native.Mathlib.Omega.{arith}
-use borrow.Author.Tests.{eqb-true}
 use lib.Dec.{eqb}
 use lib.ListN.{length, take}
 use lib.Seq.{append-snoc, take-append-add}
@@ -20,7 +19,8 @@ lines-after before [] = rw append-nil
 lines-after before (b ∷ s) = by (eqb b feed) (lines-after (before ++ (b ∷ [])) s)
   where
     by : (t : Bool)
-        → linesAfter (before ++ (b ∷ [])) s ≡ cond (hasFeed s) (ended ((before ++ (b ∷ [])) ++ firstLine s) ∷ linesAfter [] (afterLine s)) (lastLine ((before ++ (b ∷ [])) ++ s))
+        → linesAfter (before ++ (b ∷ [])) s
+        ≡ cond (hasFeed s) (ended ((before ++ (b ∷ [])) ++ firstLine s) ∷ linesAfter [] (afterLine s)) (lastLine ((before ++ (b ∷ [])) ++ s))
         → cond t (ended before ∷ linesAfter [] s) (linesAfter (before ++ (b ∷ [])) s)
         ≡ cond (t || hasFeed s) (ended (before ++ cond t [] (b ∷ firstLine s)) ∷ linesAfter [] (cond t s (afterLine s))) (lastLine (before ++ (b ∷ s)))
     by true e = rw append-nil
@@ -50,7 +50,8 @@ unfolding hasFeed firstLine
 line-front [] t e = absurd (false≢true e)
 line-front (b ∷ s) t e = by (eqb b feed) e (line-front s t)
   where
-    by : (k : Bool) → (k || hasFeed s) ≡ true → (hasFeed s ≡ true → firstLine (s ++ t) ≡ firstLine s) → cond k [] (b ∷ firstLine (s ++ t)) ≡ cond k [] (b ∷ firstLine s)
+    by : (k : Bool) → (k || hasFeed s) ≡ true → (hasFeed s ≡ true → firstLine (s ++ t) ≡ firstLine s)
+        → cond k [] (b ∷ firstLine (s ++ t)) ≡ cond k [] (b ∷ firstLine s)
     by true p rec = refl
     by false p rec = ap (λ (l : List ℕ). b ∷ l) (rec p)
 
@@ -59,7 +60,8 @@ unfolding hasFeed afterLine
 after-front [] t e = absurd (false≢true e)
 after-front (b ∷ s) t e = by (eqb b feed) e (after-front s t)
   where
-    by : (k : Bool) → (k || hasFeed s) ≡ true → (hasFeed s ≡ true → afterLine (s ++ t) ≡ afterLine s ++ t) → cond k (s ++ t) (afterLine (s ++ t)) ≡ cond k s (afterLine s) ++ t
+    by : (k : Bool) → (k || hasFeed s) ≡ true → (hasFeed s ≡ true → afterLine (s ++ t) ≡ afterLine s ++ t)
+        → cond k (s ++ t) (afterLine (s ++ t)) ≡ cond k s (afterLine s) ++ t
     by true p rec = refl
     by false p rec = rec p
 

@@ -49,7 +49,8 @@ pub record Keeps (e : Equipment) (h : Said) (s more : List ℕ) (k : Said) : Typ
   pub high : k .state .taken ≤ h .state .taken + length s
   pub says : h .text ++ resume e (h .state) (s ++ more) ≡ k .text ++ resume e (k .state) (drop (k .state .taken - h .state .taken) s ++ more)
   pub finish : doneAfter e (h .state) (linesIn (s ++ more)) ≡ true → doneAfter e (k .state) (linesIn (drop (k .state .taken - h .state .taken) s ++ more)) ≡ true
-  pub took : (t : List ℕ) → (isDone (k .state) ≡ true → t ≡ []) → h .text ++ resume e (h .state) (take (k .state .taken - h .state .taken) s ++ t) ≡ k .text ++ resume e (k .state) t
+  pub took : (t : List ℕ) → (isDone (k .state) ≡ true → t ≡ [])
+      → h .text ++ resume e (h .state) (take (k .state .taken - h .state .taken) s ++ t) ≡ k .text ++ resume e (k .state) t
   pub on : readsSheet (h .state) ≡ false → readsSheet (k .state) ≡ false
 
 stays : (e : Equipment) (h : Said) (s more : List ℕ) → Keeps e h s more h
@@ -78,7 +79,14 @@ module _ (e : Equipment) (h : Said) (s more : List ℕ) (plain : hasFeed s ≡ f
         high = omega arith;
         says = rw (none, append-nil s, resume-unfed e (h .state) s plain, done-resume e (stopped (h .state) (length s)) _ refl) (sym (append-nil _));
         finish = λ p. done-done e (stopped (h .state) (length s)) (linesIn (drop (h .state .taken + length s - h .state .taken) s ++ more)) refl;
-        took = λ t n. rw (n refl, all, take-length s, append-nil s, resume-unfed e (h .state) s plain, done-resume e (stopped (h .state) (length s)) [] refl) (sym (append-nil _));
+        took = λ t n. rw (
+          n refl,
+          all,
+          take-length s,
+          append-nil s,
+          resume-unfed e (h .state) s plain,
+          done-resume e (stopped (h .state) (length s)) [] refl,
+        ) (sym (append-nil _));
         on = λ p. refl;
       }
 
@@ -129,7 +137,8 @@ module _ (e : Equipment) (h : Said) (s more : List ℕ) (fed : hasFeed s ≡ tru
       (sym (append-assoc (h .text) (said e (h .state) line .text) (resume e (next .state) (afterLine s ++ more))))
 
   -- what is left of the rest of s is what is left of s
-  left-is : (k : Said) → next .state .taken ≤ k .state .taken → drop (k .state .taken - next .state .taken) (afterLine s) ≡ drop (k .state .taken - h .state .taken) s
+  left-is : (k : Said) → next .state .taken ≤ k .state .taken
+      → drop (k .state .taken - next .state .taken) (afterLine s) ≡ drop (k .state .taken - h .state .taken) s
   left-is k low =
       let n : length line + 1 + (k .state .taken - next .state .taken) ≡ k .state .taken - h .state .taken = omega (arith, next-taken) in
       ap (drop (k .state .taken - next .state .taken)) after-is ∙ drop-drop _ (length line + 1) s ∙ ap (λ (m : ℕ). drop m s) n
@@ -139,7 +148,8 @@ module _ (e : Equipment) (h : Said) (s more : List ℕ) (fed : hasFeed s ≡ tru
       rw (← after-front s more fed, ← line-front s more fed) (sym (done-fed e (h .state) (s ++ more) (feed-front s more fed)) ∙ p)
 
   one-took : (k : Said) (t : List ℕ) → next .state .taken ≤ k .state .taken
-      → h .text ++ resume e (h .state) (take (k .state .taken - h .state .taken) s ++ t) ≡ next .text ++ resume e (next .state) (take (k .state .taken - next .state .taken) (afterLine s) ++ t)
+      → h .text ++ resume e (h .state) (take (k .state .taken - h .state .taken) s ++ t)
+      ≡ next .text ++ resume e (next .state) (take (k .state .taken - next .state .taken) (afterLine s) ++ t)
   one-took k t low =
       let m = k .state .taken - next .state .taken in
       let n : k .state .taken - h .state .taken ≡ length line + 1 + m = omega (arith, next-taken) in
@@ -171,14 +181,17 @@ module _ (e : Equipment) (ends : Bool) (size : ℕ) (h : Said) (s more : List �
   keeps-end f true p = stays e h s more
   keeps-end f false p = keeps-tail e h s more f ends last
 
-  keeps-fed : (f : hasFeed s ≡ true) → (Keeps e (andSaid h (said e (h .state) (firstLine s))) (afterLine s) more (handled e ends size (andSaid h (said e (h .state) (firstLine s))) (linesIn (afterLine s))))
+  keeps-fed : (f : hasFeed s ≡ true)
+      → (Keeps e (andSaid h (said e (h .state) (firstLine s))) (afterLine s) more
+      (handled e ends size (andSaid h (said e (h .state) (firstLine s))) (linesIn (afterLine s))))
       → (b : Bool) → stops size h ≡ b → Keeps e h s more (cond b h (handled e ends size (andSaid h (said e (h .state) (firstLine s))) (linesIn (afterLine s))))
   keeps-fed f rest true p = stays e h s more
   keeps-fed f rest false p = keeps-line e h s more f (neither _ _ p .0) _ rest
 
   -- n is at least the length of s; `rest` is the claim for what follows a line of s
   keeps-by : (b : Bool) → hasFeed s ≡ b
-      → (hasFeed s ≡ true → Keeps e (andSaid h (said e (h .state) (firstLine s))) (afterLine s) more (handled e ends size (andSaid h (said e (h .state) (firstLine s))) (linesIn (afterLine s))))
+      → (hasFeed s ≡ true → Keeps e (andSaid h (said e (h .state) (firstLine s))) (afterLine s) more
+      (handled e ends size (andSaid h (said e (h .state) (firstLine s))) (linesIn (afterLine s))))
       → Keeps e h s more (handled e ends size h (linesIn s))
   keeps-by false f rest = rw (handled-unfed e ends size h s f) (keeps-end f (stops size h) refl)
   keeps-by true f rest = rw (handled-fed e ends size h s f) (keeps-fed f (rest f) (stops size h) refl)
@@ -205,7 +218,8 @@ keeps e ends size h s more last = keeps-within e ends size (length s) h s more (
 -- ---- and it fits
 
 fits-by : (e : Equipment) (ends : Bool) (size : ℕ) (h : Said) (s : List ℕ) → Fit (h .state) (length s) → (b : Bool) → hasFeed s ≡ b
-    → (hasFeed s ≡ true → Fit (said e (h .state) (firstLine s) .state) (length (afterLine s)) → Fit (handled e ends size (andSaid h (said e (h .state) (firstLine s))) (linesIn (afterLine s)) .state) 0)
+    → (hasFeed s ≡ true → Fit (said e (h .state) (firstLine s) .state) (length (afterLine s))
+    → Fit (handled e ends size (andSaid h (said e (h .state) (firstLine s))) (linesIn (afterLine s)) .state) 0)
     → Fit (handled e ends size h (linesIn s) .state) 0
 fits-by e ends size h s fit false f rest = rw (handled-unfed e ends size h s f) (by (stops size h))
   where
@@ -220,7 +234,8 @@ fits-by e ends size h s fit true f rest = rw (handled-fed e ends size h s f) (by
         let n : length s - (length (firstLine s) + 1) ≡ length (afterLine s) = omega (arith, after-shorter s f) in
         rest f (subst (Fit (said e (h .state) (firstLine s) .state)) n (fit-said e (firstLine s) (neither _ _ p .0) fit (omega (arith, after-shorter s f))))
 
-fits-within : (e : Equipment) (ends : Bool) (size n : ℕ) (h : Said) (s : List ℕ) → length s ≤ n → Fit (h .state) (length s) → Fit (handled e ends size h (linesIn s) .state) 0
+fits-within : (e : Equipment) (ends : Bool) (size n : ℕ) (h : Said) (s : List ℕ) → length s ≤ n → Fit (h .state) (length s)
+    → Fit (handled e ends size h (linesIn s) .state) 0
 fits-within e ends size zero h s low fit = fits-by e ends size h s fit (hasFeed s) refl (λ f p. absurd (omega (arith, after-shorter s f)))
 fits-within e ends size (suc n) h s low fit =
     fits-by e ends size h s fit (hasFeed s) refl
@@ -257,7 +272,8 @@ settled-tail false size h s f e = by (h .state .overlong || ltb longest (length 
 
 settled-by : (e : Equipment) (ends : Bool) (size : ℕ) (h : Said) (s : List ℕ) → (b : Bool) → hasFeed s ≡ b
     → (hasFeed s ≡ true → stops size (handled e ends size (andSaid h (said e (h .state) (firstLine s))) (linesIn (afterLine s))) ≡ false
-    → Settled ends (andSaid h (said e (h .state) (firstLine s))) (afterLine s) (handled e ends size (andSaid h (said e (h .state) (firstLine s))) (linesIn (afterLine s))))
+    → Settled ends (andSaid h (said e (h .state) (firstLine s))) (afterLine s)
+    (handled e ends size (andSaid h (said e (h .state) (firstLine s))) (linesIn (afterLine s))))
     → stops size (handled e ends size h (linesIn s)) ≡ false → Settled ends h s (handled e ends size h (linesIn s))
 settled-by e ends size h s false f rest = rw (handled-unfed e ends size h s f) (by (stops size h) refl)
   where

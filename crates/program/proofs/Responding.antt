@@ -68,11 +68,13 @@ module _ (e : Equipment) (q : State) (block : List ℕ) (last : Bool) (size : �
     taken-high = omega (arith, kept .high, s-length)
 
     -- what is left of the input's bytes of the block and what follows them, cut as the next call cuts it
-    left-cut : drop (answer .state .taken - q .taken) s ++ take (budget q - length block) more ≡ take (budget (answer .state)) (drop (answer .state .taken - q .taken) block ++ more)
+    left-cut : drop (answer .state .taken - q .taken) s ++ take (budget q - length block) more
+        ≡ take (budget (answer .state)) (drop (answer .state .taken - q .taken) block ++ more)
     left-cut =
         let d : answer .state .taken - q .taken ≤ budget q = omega (arith, kept .high, s-length) in
         let left : budget q - (answer .state .taken - q .taken) ≡ budget (answer .state) = omega (arith, kept .low, fit .high) in
-        rest-cut (answer .state .taken - q .taken) (budget q) block more d (omega (arith, kept .high, s-length)) ∙ ap (λ (n : ℕ). take n (drop (answer .state .taken - q .taken) block ++ more)) left
+        rest-cut (answer .state .taken - q .taken) (budget q) block more d (omega (arith, kept .high, s-length))
+        ∙ ap (λ (n : ℕ). take n (drop (answer .state .taken - q .taken) block ++ more)) left
 
     pub says : resume e q (take (budget q) (block ++ more))
         ≡ answer .text ++ resume e (answer .state) (take (budget (answer .state)) (drop (answer .state .taken - q .taken) block ++ more))
@@ -86,7 +88,8 @@ module _ (e : Equipment) (q : State) (block : List ℕ) (last : Bool) (size : �
     finishes p = rw (← left-cut) (kept .finish (rw (← take-both (budget q) block more) p))
 
   -- the bytes that are taken, whatever comes after them where not all is done
-  pub took : (t : List ℕ) → (isDone (answer .state) ≡ true → t ≡ []) → resume e q (take (answer .state .taken - q .taken) block ++ t) ≡ answer .text ++ resume e (answer .state) t
+  pub took : (t : List ℕ) → (isDone (answer .state) ≡ true → t ≡ [])
+      → resume e q (take (answer .state .taken - q .taken) block ++ t) ≡ answer .text ++ resume e (answer .state) t
   took t n =
       let k = kept [] (λ p. refl) in
       let same = take-take (answer .state .taken - q .taken) (budget q) block (omega (arith, k .high, s-length)) in

@@ -118,7 +118,8 @@ module _ (e : Equipment) (q : State) (s : List ℕ) (b : Bool) (is : q .overlong
   unfolding said
   dropped-said l p = rw p (by (readsSheet q))
     where
-      by : (k : Bool) → cond k (sheetLine q (s ++ l)) (sampleLine e q (s ++ l)) ≡ cond k (sheetLine (dropping q (length s)) l) (sampleLine e (dropping q (length s)) l)
+      by : (k : Bool) → cond k (sheetLine q (s ++ l)) (sampleLine e q (s ++ l))
+          ≡ cond k (sheetLine (dropping q (length s)) l) (sampleLine e (dropping q (length s)) l)
       by true = rw (no-numbers (q .line - 1) l, longer l)
       by false =
           rw (← sample-form) (rw (no-numbers sheetLines l, longer l))

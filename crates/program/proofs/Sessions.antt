@@ -23,7 +23,8 @@ use Rattle.program.proofs.Resuming.{done-resume, resume-none}
 use Rattle.program.proofs.Ending.{doneAfter, done-unfed}
 use Rattle.program.proofs.Framing.{plain-cut}
 use Rattle.program.proofs.Transcripts.{resume-start, known-ends}
-use Rattle.program.proofs.Responding.{s, ends, fit-after, says, took, finishes, answers-taken, left-unfed, left-short, taken-low, taken-high, done-stays, no-room, line-taken, tail-closed}
+use Rattle.program.proofs.Responding.{s, ends, fit-after, says, took, finishes, answers-taken, left-unfed, left-short, taken-low, taken-high}
+use Rattle.program.proofs.Responding.{done-stays, no-room, line-taken, tail-closed}
 
 module _ (e : Equipment) where
   -- what is to be said of the input that is left
@@ -33,7 +34,8 @@ module _ (e : Equipment) where
   -- after some calls that were given `input`
   record Good (k : Session) (input : List ℕ) : Type 0 where
     pub fit : Fit (k .state) 0
-    pub finish : (more : List ℕ) → doneAfter e start (linesIn (take inputEnd (input ++ more))) ≡ true → doneAfter e (k .state) (linesIn (take (budget (k .state)) (k .left ++ more))) ≡ true
+    pub finish : (more : List ℕ) → doneAfter e start (linesIn (take inputEnd (input ++ more))) ≡ true
+        → doneAfter e (k .state) (linesIn (take (budget (k .state)) (k .left ++ more))) ≡ true
     pub says : (more : List ℕ) → transcript e (input ++ more) ≡ k .text ++ still k more
 
   good-opened : Good opened []
@@ -50,7 +52,8 @@ module _ (e : Equipment) where
     block = k .left ++ c .bytes
 
     -- a call says what was to be said of what it took
-    call-says : Fit (k .state) 0 → (more : List ℕ) → (last ≡ true → more ≡ []) → k .text ++ still k (c .bytes ++ more) ≡ delivered e last k c .text ++ still (delivered e last k c) more
+    call-says : Fit (k .state) 0 → (more : List ℕ) → (last ≡ true → more ≡ [])
+        → k .text ++ still k (c .bytes ++ more) ≡ delivered e last k c .text ++ still (delivered e last k c) more
     call-says fit more none-more =
         ap (λ (l : List ℕ). k .text ++ resume e (k .state) (take (budget (k .state)) l)) (sym (append-assoc (k .left) (c .bytes) more))
         ∙ ap (λ (l : List ℕ). k .text ++ l) (says e (k .state) block last (c .size) fit more none-more)
@@ -63,14 +66,16 @@ module _ (e : Equipment) where
         finish = λ more p.
             finishes e (k .state) (k .left ++ c .bytes) false (c .size) (g .fit) more (λ z. absurd (false≢true z))
             (rw (append-assoc (k .left) (c .bytes) more) (g .finish (c .bytes ++ more) (rw (← append-assoc input (c .bytes) more) p)));
-        says = λ more. ap (transcript e) (append-assoc input (c .bytes) more) ∙ g .says (c .bytes ++ more) ∙ call-says k c false (g .fit) more (λ p. absurd (false≢true p));
+        says = λ more. ap (transcript e) (append-assoc input (c .bytes) more) ∙ g .says (c .bytes ++ more)
+            ∙ call-says k c false (g .fit) more (λ p. absurd (false≢true p));
       }
 
   good-during : (k : Session) (input : List ℕ) (cs : List Delivery) → Good k input → Good (during e k cs) (input ++ joined cs)
   unfolding during joined
   good-during k input [] g = subst (Good k) (sym (append-nil input)) g
   good-during k input (c ∷ cs) g =
-      subst (Good (during e (delivered e false k c) cs)) (append-assoc input (c .bytes) (joined cs)) (good-during (delivered e false k c) (input ++ c .bytes) cs (good-delivered k input c g))
+      subst (Good (during e (delivered e false k c) cs)) (append-assoc input (c .bytes) (joined cs))
+      (good-during (delivered e false k c) (input ++ c .bytes) cs (good-delivered k input c g))
 
   -- ---- once the input has ended
 
@@ -135,7 +140,15 @@ module _ (e : Equipment) where
 
     more-counts : length (g .bytes ++ more) ≡ then .state .taken
     more-counts =
-        omega (arith, length-append (g .bytes) more, length-take (then .state .taken - k .state .taken) whole, g .counts, taken-low e (k .state) whole last (c .size) (g .fit) [] (λ p. refl), taken-high e (k .state) whole last (c .size) (g .fit) [] (λ p. refl))
+        omega (
+          arith,
+          length-append (g .bytes) more,
+          length-take (then .state .taken - k .state .taken) whole,
+          g .counts,
+          taken-low e (k .state) whole last (c .size) (g .fit) []
+              (λ p. refl),
+          taken-high e (k .state) whole last (c .size) (g .fit) [] (λ p. refl),
+        )
 
     -- all done, nothing more is taken
     none-more : (t : List ℕ) → (isDone (then .state) ≡ true → t ≡ []) → isDone (k .state) ≡ true → more ++ t ≡ []
@@ -162,19 +175,24 @@ module _ (e : Equipment) where
   unfolding during joined
   took-during k input [] g = subst (Took k) (sym (append-nil input)) g
   took-during k input (c ∷ cs) g =
-      subst (Took (during e (delivered e false k c) cs)) (append-assoc input (c .bytes) (joined cs)) (took-during (delivered e false k c) (input ++ c .bytes) cs (took-delivered k input c false g))
+      subst (Took (during e (delivered e false k c) cs)) (append-assoc input (c .bytes) (joined cs))
+      (took-during (delivered e false k c) (input ++ c .bytes) cs (took-delivered k input c false g))
 
   took-ending : (k : Session) (input : List ℕ) (sizes : List ℕ) → Took k input → Took (ending e k sizes) input
   unfolding ending
   took-ending k input [] g = g
   took-ending k input (size ∷ sizes) g =
-      took-ending (delivered e true k (closing size)) input sizes (subst (Took (delivered e true k (closing size))) (append-nil input) (took-delivered k input (closing size) true g))
+      took-ending (delivered e true k (closing size)) input sizes
+      (subst (Took (delivered e true k (closing size))) (append-nil input) (took-delivered k input (closing size) true g))
 
   -- the sheet is read, and no begun line is dropped
-  took-text : (k : Session) (input : List ℕ) → Took k input → 1 ≤ k .state .stage → k .state .overlong ≡ false → k .text ≡ transcript e (take (k .state .taken) input)
+  took-text : (k : Session) (input : List ℕ) → Took k input → 1 ≤ k .state .stage → k .state .overlong ≡ false
+      → k .text ≡ transcript e (take (k .state .taken) input)
   unfolding transcript
   took-text k input g p whole =
-      let cutting : take inputEnd (take (k .state .taken) input) ≡ g .bytes ++ [] = ap (take inputEnd) (ap (take (k .state .taken)) (g .splits) ∙ take-at (g .bytes) (k .left) (k .state .taken) (g .counts)) ∙ take-all inputEnd (g .bytes) (omega (arith, g .counts, g .fit .high)) ∙ sym (append-nil (g .bytes)) in
+      let cutting : take inputEnd (take (k .state .taken) input) ≡ g .bytes ++ []
+      = ap (take inputEnd) (ap (take (k .state .taken)) (g .splits) ∙ take-at (g .bytes) (k .left) (k .state .taken) (g .counts))
+      ∙ take-all inputEnd (g .bytes) (omega (arith, g .counts, g .fit .high)) ∙ sym (append-nil (g .bytes)) in
       let quiet = resume-none e (k .state) (ne-eqb (k .state .stage) 0 (λ z. omega arith)) whole in
       sym (ap (transcriptOf e) cutting ∙ g .says [] (λ z. refl) ∙ ap (λ (l : List ℕ). k .text ++ l) quiet ∙ append-nil (k .text))
 
@@ -191,7 +209,14 @@ module _ (e : Equipment) where
           absurd (false≢true (sym going ∙ ap (λ h. isDone (h .state)) (done-stays e (k .state) (k .left ++ []) true size fit p) ∙ p))
       by false p false r = absurd (false≢true (sym going ∙ tail-closed e (k .state) (k .left ++ []) true size fit p roomy r refl))
       by false p true r =
-          omega (arith, line-taken e (k .state) (k .left ++ []) true size fit p roomy r, taken-high e (k .state) (k .left ++ []) true size fit [] (λ p. refl), length-drop (delivered e true k (closing size) .state .taken - k .state .taken) (k .left ++ []), length-append (k .left) [])
+          omega (
+            arith,
+            line-taken e (k .state) (k .left ++ []) true size fit p roomy r,
+            taken-high e (k .state) (k .left ++ []) true size fit [] (λ p. refl),
+            length-drop
+                (delivered e true k (closing size) .state .taken - k .state .taken) (k .left ++ []),
+            length-append (k .left) [],
+          )
 
   stays-done : (k : Session) (sizes : List ℕ) → Fit (k .state) 0 → isDone (k .state) ≡ true → isDone (ending e k sizes .state) ≡ true
   unfolding ending
@@ -205,7 +230,8 @@ module _ (e : Equipment) where
   all-done k [] fit r h = absurd (omega arith)
   all-done k (size ∷ sizes) fit r h =
       by (isDone (delivered e true k (closing size) .state)) refl
-      (λ p. all-done (delivered e true k (closing size)) sizes (fit-after e (k .state) (k .left ++ []) true size fit) (r .1) (omega (arith, fewer k size fit (r .0) p)))
+      (λ p. all-done (delivered e true k (closing size)) sizes (fit-after e (k .state) (k .left ++ []) true size fit) (r .1)
+      (omega (arith, fewer k size fit (r .0) p)))
     where
       by : (b : Bool) → isDone (delivered e true k (closing size) .state) ≡ b
           → (isDone (delivered e true k (closing size) .state) ≡ false → isDone (ending e (delivered e true k (closing size)) sizes .state) ≡ true)
@@ -227,7 +253,8 @@ module _ (e : Equipment) where
   nothing-more : (k : Session) (more : List ℕ) → isDone (k .state) ≡ true → k .text ++ still k more ≡ k .text
   nothing-more k more p = rw (done-resume e (k .state) (take (budget (k .state)) (k .left ++ more)) p) (append-nil (k .text))
 
-  ends-known : (cs : List Delivery) (cause : Refusal) (n : ℕ) → readSheet (cut cs) .check ≡ SettingsCheck.Refused cause n → hasFeed (drop (readSheet (cut cs) .start) (cut cs)) ≡ true
+  ends-known : (cs : List Delivery) (cause : Refusal) (n : ℕ) → readSheet (cut cs) .check ≡ SettingsCheck.Refused cause n
+      → hasFeed (drop (readSheet (cut cs) .start) (cut cs)) ≡ true
       → hasFeed (after cs .left) ≡ false → isDone (after cs .state) ≡ true
   ends-known cs cause n c f left =
       let k = after cs in
@@ -249,8 +276,11 @@ module _ (e : Equipment) where
         handles = λ q block last size fit going room.
             (left-unfed e q block last size (sensible-fit q fit) going room, left-short e q block last size (sensible-fit q fit) going room);
         answers = λ q block last size fit samples whole left. answers-taken e q block last size (sensible-fit q fit) samples whole left;
-        written = λ cs sizes p whole. took-text (ending e (after cs) sizes) (joined cs) (took-ending (after cs) (joined cs) sizes (took-during opened [] cs took-opened)) p whole;
+        written = λ cs sizes p whole. took-text (ending e (after cs) sizes) (joined cs)
+            (took-ending (after cs) (joined cs) sizes (took-during opened [] cs took-opened)) p whole;
         refused = λ cs cause n c f left. ends-known cs cause n c f left;
-        begins = λ cs more. good cs .says more ∙ ap (λ (l : List ℕ). after cs .text ++ l) (sym (ap (drop (length (after cs .text))) (good cs .says more) ∙ drop-append-seam (after cs .text) (still (after cs) more)));
+        begins = λ cs more. good cs .says more
+            ∙ ap (λ (l : List ℕ). after cs .text ++ l)
+            (sym (ap (drop (length (after cs .text))) (good cs .says more) ∙ drop-append-seam (after cs .text) (still (after cs) more)));
         early = λ cs more p. good cs .says more ∙ nothing-more (after cs) more p;
       }

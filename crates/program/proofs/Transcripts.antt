@@ -48,7 +48,9 @@ module _ (e : Equipment) (st : Settings) (b : Board) (n t : ℕ) (s : List ℕ) 
   unfolding said
   said-sample = refl
 
-  sample-fed : hasFeed s ≡ true → resume e (sampling st (answered .board) (n + 1) (t + (length (firstLine s) + 1))) (afterLine s) ≡ answersFrom e st (answered .board) (n + 1) (linesIn (afterLine s))
+  sample-fed : hasFeed s ≡ true
+      → resume e (sampling st (answered .board) (n + 1) (t + (length (firstLine s) + 1))) (afterLine s)
+      ≡ answersFrom e st (answered .board) (n + 1) (linesIn (afterLine s))
       → resume e (sampling st b n t) s ≡ answersFrom e st b n (linesIn s)
   unfolding answersFrom lineStep
   sample-fed f rest =
@@ -65,16 +67,20 @@ module _ (e : Equipment) (st : Settings) (b : Board) (n t : ℕ) (s : List ℕ) 
   sample-unfed : hasFeed s ≡ false → resume e (sampling st b n t) s ≡ answersFrom e st b n (linesIn s)
   sample-unfed f = resume-unfed e (sampling st b n t) s f ∙ end-answers ∙ sym (ap (answersFrom e st b n) (lines-unfed s f))
 
-samples-within : (e : Equipment) (st : Settings) (k : ℕ) (b : Board) (n t : ℕ) (s : List ℕ) → length s ≤ k → resume e (sampling st b n t) s ≡ answersFrom e st b n (linesIn s)
+samples-within : (e : Equipment) (st : Settings) (k : ℕ) (b : Board) (n t : ℕ) (s : List ℕ) → length s ≤ k
+    → resume e (sampling st b n t) s ≡ answersFrom e st b n (linesIn s)
 samples-within e st zero b n t s low = by (hasFeed s) refl
   where
     by : (f : Bool) → hasFeed s ≡ f → resume e (sampling st b n t) s ≡ answersFrom e st b n (linesIn s)
     by true p = absurd (omega (arith, after-shorter s p))
     by false p = sample-unfed e st b n t s p
 samples-within e st (suc k) b n t s low =
-    by (hasFeed s) refl (λ p. samples-within e st k (answered e st b n t s .board) (n + 1) (t + (length (firstLine s) + 1)) (afterLine s) (omega (arith, after-shorter s p)))
+    by (hasFeed s) refl (λ p. samples-within e st k (answered e st b n t s .board) (n + 1) (t + (length (firstLine s) + 1)) (afterLine s)
+    (omega (arith, after-shorter s p)))
   where
-    by : (f : Bool) → hasFeed s ≡ f → (hasFeed s ≡ true → resume e (sampling st (answered e st b n t s .board) (n + 1) (t + (length (firstLine s) + 1))) (afterLine s) ≡ answersFrom e st (answered e st b n t s .board) (n + 1) (linesIn (afterLine s))) → resume e (sampling st b n t) s ≡ answersFrom e st b n (linesIn s)
+    by : (f : Bool) → hasFeed s ≡ f
+        → (hasFeed s ≡ true → resume e (sampling st (answered e st b n t s .board) (n + 1) (t + (length (firstLine s) + 1))) (afterLine s)
+        ≡ answersFrom e st (answered e st b n t s .board) (n + 1) (linesIn (afterLine s))) → resume e (sampling st b n t) s ≡ answersFrom e st b n (linesIn s)
     by true p rest = sample-fed e st b n t s p (rest p)
     by false p rest = sample-unfed e st b n t s p
 
@@ -123,7 +129,8 @@ module _ (e : Equipment) (s : List ℕ) (i at : ℕ) (lines : List (List Pair)) 
         → resume e (reading (settingsOf lines) i at) (drop at s) ≡ r .text ++ resume e (r .state) (drop past s)
     then r p = resume-fed e (reading (settingsOf lines) i at) (drop at s) f ∙ rw (said-read, p, after-is)
 
-    refused-text : (cause : Refusal) (n : ℕ) → read .check ≡ SettingsCheck.Refused cause n → resume e (reading (settingsOf lines) i at) (drop at s) ≡ to-the-end e s (from s i at lines)
+    refused-text : (cause : Refusal) (n : ℕ) → read .check ≡ SettingsCheck.Refused cause n
+        → resume e (reading (settingsOf lines) i at) (drop at s) ≡ to-the-end e s (from s i at lines)
     refused-text cause n c =
         let r = on-refused s i at lines h f long read refl cause n c in
         let q = reading (settingsOf lines) i at in
@@ -140,7 +147,8 @@ module _ (e : Equipment) (s : List ℕ) (i at : ℕ) (lines : List (List Pair)) 
     abbrev Rest : Type 0
     Rest = (more : List (List Pair)) → length more ≡ i + 1 → resume e (onward (settingsOf more)) (drop past s) ≡ to-the-end e s (from s (i + 1) past more)
 
-    accepted-by : read .check ≡ SettingsCheck.Accepted → Rest → (more : List (List Pair)) → length more ≡ i + 1 → read .settings ≡ settingsOf more → from s i at lines ≡ from s (i + 1) past more
+    accepted-by : read .check ≡ SettingsCheck.Accepted → Rest → (more : List (List Pair)) → length more ≡ i + 1 → read .settings ≡ settingsOf more
+        → from s i at lines ≡ from s (i + 1) past more
         → resume e (reading (settingsOf lines) i at) (drop at s) ≡ to-the-end e s (from s i at lines)
     accepted-by c rest more l st is =
         let same : at + (length line + 1) ≡ past = omega arith in
@@ -160,7 +168,8 @@ module _ (e : Equipment) (s : List ℕ) (i at : ℕ) (lines : List (List Pair)) 
 
 -- past the thirteenth line
 sheet-done : (e : Equipment) (s : List ℕ) (at : ℕ) (lines : List (List Pair)) (i : ℕ) → i ≡ sheetLines
-    → resume e (record { stage = 1; line = i + 1; overlong = false; taken = at; settings = settingsOf lines; board = fresh }) (drop at s) ≡ to-the-end e s (from s i at lines)
+    → resume e (record { stage = 1; line = i + 1; overlong = false; taken = at; settings = settingsOf lines; board = fresh }) (drop at s)
+    ≡ to-the-end e s (from s i at lines)
 sheet-done e s at lines i is =
     resume-samples e (settingsOf lines) fresh (i + 1) at (drop at s)
     ∙ rw is refl
@@ -180,7 +189,9 @@ sheet-within e (suc k) s i at lines is long =
     by (hasFeed (drop at s)) refl (λ more l. sheet-within e k s (i + 1) (at + length (firstLine (drop at s)) + 1) more (omega arith) l)
   where
     by : (b : Bool) → hasFeed (drop at s) ≡ b
-        → ((more : List (List Pair)) → length more ≡ i + 1 → resume e (reading (settingsOf more) (i + 1) (at + length (firstLine (drop at s)) + 1)) (drop (at + length (firstLine (drop at s)) + 1) s) ≡ to-the-end e s (from s (i + 1) (at + length (firstLine (drop at s)) + 1) more))
+        → ((more : List (List Pair)) → length more ≡ i + 1
+        → resume e (reading (settingsOf more) (i + 1) (at + length (firstLine (drop at s)) + 1)) (drop (at + length (firstLine (drop at s)) + 1) s)
+        ≡ to-the-end e s (from s (i + 1) (at + length (firstLine (drop at s)) + 1) more))
         → resume e (reading (settingsOf lines) i at) (drop at s) ≡ to-the-end e s (from s i at lines)
     by false f rest = unended-text e s i at lines (omega arith) long f
     by true f rest =
@@ -201,9 +212,17 @@ record Known (s : List ℕ) (r : SheetReading) : Type 0 where
   pub check : r .check ≡ SettingsCheck.Refused cause line
   pub fed : hasFeed (drop (r .start) s) ≡ true
 
-known-by : (e : Equipment) (s : List ℕ) (i at : ℕ) (lines : List (List Pair)) (h : i < sheetLines) (long : length lines ≡ i) → Known s (from s i at lines) → (b : Bool) → hasFeed (drop at s) ≡ b
+known-by : (e : Equipment) (s : List ℕ) (i at : ℕ) (lines : List (List Pair)) (h : i < sheetLines) (long : length lines ≡ i) → Known s (from s i at lines)
+    → (b : Bool) → hasFeed (drop at s) ≡ b
     → ((more : List (List Pair)) → length more ≡ i + 1 → Known s (from s (i + 1) (at + length (firstLine (drop at s)) + 1) more)
-    → doneAfter e (record { stage = stageAfter (i + 1); line = i + 1 + 1; overlong = false; taken = at + length (firstLine (drop at s)) + 1; settings = settingsOf more; board = fresh }) (linesIn (drop (at + length (firstLine (drop at s)) + 1) s)) ≡ true)
+    → doneAfter e (record {
+      stage = stageAfter (i + 1);
+      line = i + 1 + 1;
+      overlong = false;
+      taken = at + length (firstLine (drop at s)) + 1;
+      settings = settingsOf more;
+      board = fresh;
+    }) (linesIn (drop (at + length (firstLine (drop at s)) + 1) s)) ≡ true)
     → doneAfter e (reading (settingsOf lines) i at) (linesIn (drop at s)) ≡ true
 known-by e s i at lines h long k false f rest =
     let same = from-unended s i at lines h f in
@@ -222,16 +241,19 @@ known-by e s i at lines h long k true f rest = by (line-read .check) refl
 
     by : (c : SettingsCheck) → line-read .check ≡ c → doneAfter e q (linesIn (drop at s)) ≡ true
     by (SettingsCheck.Refused cause n) c =
-        stepped (onCheck q (length (firstLine (drop at s)) + 1) (line-read .settings) (SettingsCheck.Refused cause n)) (ap (onCheck q (length (firstLine (drop at s)) + 1) (line-read .settings)) c)
+        stepped (onCheck q (length (firstLine (drop at s)) + 1) (line-read .settings) (SettingsCheck.Refused cause n))
+        (ap (onCheck q (length (firstLine (drop at s)) + 1) (line-read .settings)) c)
         ∙ done-done e (stopped q (length (firstLine (drop at s)) + 1)) (linesIn (drop (at + length (firstLine (drop at s)) + 1) s)) refl
     by SettingsCheck.Accepted c =
         let g = on-accepted s i at lines h f long line-read refl c in
         go (lines ++ (g .read ∷ [])) (length-append lines (g .read ∷ []) ∙ ap (λ (n : ℕ). n + 1) long) (g .settings) (g .reading)
       where
-        go : (more : List (List Pair)) → length more ≡ i + 1 → line-read .settings ≡ settingsOf more → from s i at lines ≡ from s (i + 1) (at + length (firstLine (drop at s)) + 1) more → doneAfter e q (linesIn (drop at s)) ≡ true
+        go : (more : List (List Pair)) → length more ≡ i + 1 → line-read .settings ≡ settingsOf more
+            → from s i at lines ≡ from s (i + 1) (at + length (firstLine (drop at s)) + 1) more → doneAfter e q (linesIn (drop at s)) ≡ true
         go more l st is =
             let same : at + (length (firstLine (drop at s)) + 1) ≡ at + length (firstLine (drop at s)) + 1 = omega arith in
-            let onto : onRead q (length (firstLine (drop at s)) + 1) line-read ≡ record { state = onward e s i at lines h long f (settingsOf more); text = [] } = rw (c, st, same) in
+            let onto : onRead q (length (firstLine (drop at s)) + 1) line-read ≡ record { state = onward e s i at lines h long f (settingsOf more); text = [] }
+            = rw (c, st, same) in
             stepped (record { state = onward e s i at lines h long f (settingsOf more); text = [] }) onto ∙ rest more l (subst (Known s) is k)
 
 known-within : (e : Equipment) (k : ℕ) (s : List ℕ) (i at : ℕ) (lines : List (List Pair)) → i + suc k ≡ sheetLines → length lines ≡ i → Known s (from s i at lines)
@@ -246,7 +268,8 @@ known-within e (suc k) s i at lines is long known =
     known-by e s i at lines (omega arith) long known (hasFeed (drop at s)) refl
     (λ more l n. rw (ne-eqb (i + 1) sheetLines (λ z. omega arith)) (known-within e k s (i + 1) (at + length (firstLine (drop at s)) + 1) more (omega arith) l n))
 
-pub known-ends : (e : Equipment) (s : List ℕ) (cause : Refusal) (n : ℕ) → readSheet s .check ≡ SettingsCheck.Refused cause n → hasFeed (drop (readSheet s .start) s) ≡ true
+pub known-ends : (e : Equipment) (s : List ℕ) (cause : Refusal) (n : ℕ) → readSheet s .check ≡ SettingsCheck.Refused cause n
+    → hasFeed (drop (readSheet s .start) s) ≡ true
     → doneAfter e start (linesIn s) ≡ true
 unfolding start readSheet
 known-ends e s cause n c f = known-within e 12 s 0 0 [] (omega arith) refl (record { cause = cause; line = n; check = c; fed = f })

@@ -1,6 +1,6 @@
 -- Spec 10.13, 10.14: what `respond` makes of a state, a block of input and the size of a lent buffer.
 -- Assumes nothing.
-use mathlib.Core.Bool.{Bool, true, cond, _||_}
+use mathlib.Core.Bool.{Bool, cond, _||_}
 use mathlib.Core.List.{List, [], _∷_, _++_}
 use Prim.Native.Nat.{ℕ, _+_, _-_}
 use lib.Dec.{ltb, leb}

@@ -36,14 +36,16 @@ module _ (r : Reading) (s : Settings) where
   last-counted k i [] e off = absurd (omega arith)
   last-counted zero i (n ∷ ns) e off = rw add-zero
   last-counted (suc k) i (n ∷ ns) e off =
-      ap₂ _∷_ (rw (off i (omega arith) (omega arith))) (rw (add-suc, ← suc-add) (last-counted k (suc i) ns (omega arith) (λ j low high. off j (omega arith) (omega arith))))
+      ap₂ _∷_ (rw (off i (omega arith) (omega arith)))
+      (rw (add-suc, ← suc-add) (last-counted k (suc i) ns (omega arith) (λ j low high. off j (omega arith) (omega arith))))
 
   last-full : (k i n : ℕ) → ((j : ℕ) → i ≤ j → j < i + k → 1 ≤ topAt s j)
       → packedAfter 0 (each full (rulesFrom r s i (suc k)) (set (replicate (suc k) 0) k n)) ≡ 2 * 0 + cond (eqb n (topAt s (i + k))) 1 0
   unfolding rulesFrom each
   last-full zero i n some = rw add-zero
   last-full (suc k) i n some =
-      rw (ne-eqb 0 (topAt s i) (omega (arith, some i (omega arith) (omega arith))), add-suc, ← suc-add) (last-full k (suc i) n (λ j low high. some j (omega arith) (omega arith)))
+      rw (ne-eqb 0 (topAt s i) (omega (arith, some i (omega arith) (omega arith))), add-suc, ← suc-add)
+      (last-full k (suc i) n (λ j low high. some j (omega arith) (omega arith)))
 
   -- ---- all nine: the counters are n in the ninth place and 0 before it
 

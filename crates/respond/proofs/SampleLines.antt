@@ -48,7 +48,8 @@ unfolding lineFrom
 long-line t at = refl
 
 found-by : (b : Bool) (o : Option (List ℤ)) (at n : ℕ) → readThen (cond b o none) at n .found ≡ true
-    → record { ended = true; found = true; next = readThen (cond b o none) at n .next; slice = readThen (cond b o none) at n .slice } ≡ cond b (lineWith n o) (lineWithout false at)
+    → record { ended = true; found = true; next = readThen (cond b o none) at n .next; slice = readThen (cond b o none) at n .slice }
+    ≡ cond b (lineWith n o) (lineWithout false at)
 found-by true none at n f = absurd (false≢true f)
 found-by true (some ns) at n f = refl
 found-by false o at n f = absurd (false≢true f)
@@ -195,6 +196,13 @@ module _ (e : Equipment) (s d : List ℕ) (h : Handled) (d′ : List ℕ) (b : B
               (linesIn (drop (x .next) s))
           same-line before l ends =
               let c = going .carried in
-              let size : length (before ++ c .text) + lineRoom ≤ length d = omega (arith, length-append before (c .text), c .wrote .after, room, wrote-length (c .wrote)) in
+              let size : length (before ++ c .text) + lineRoom ≤ length d
+              = omega (arith, length-append before (c .text), c .wrote .after, room, wrote-length (c .wrote)) in
               handled-fed e ends (length d) (record { state = q; text = before ++ c .text }) (drop at s) fed
-              ∙ rw (le-ltb (length d) (length (before ++ c .text) + lineRoom) size, said-is, after-place s at fed, ← next-is, append-assoc before (c .text) (answerLine n (r .answer)))
+              ∙ rw (
+                le-ltb (length d) (length (before ++ c .text) + lineRoom) size,
+                said-is,
+                after-place s at fed,
+                ← next-is,
+                append-assoc before (c .text) (answerLine n (r .answer)),
+              )

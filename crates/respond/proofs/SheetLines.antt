@@ -111,7 +111,8 @@ module _ (q : State) (s : List ℕ) (state : State) (at end : ℕ) (going : Goin
         ∙ handled-fed e ends size (record { state = state; text = [] }) (drop at s) fed
         ∙ rw (busy, le-ltb size lineRoom r, said-is e, after-place s at fed, p)
 
-    pub refused : (cause : Refusal) (n : ℕ) → check ≡ SettingsCheck.Refused cause n → next .stage ≡ 2 → SheetSaid q s (record { state = next; at = end + 1; check = check })
+    pub refused : (cause : Refusal) (n : ℕ) → check ≡ SettingsCheck.Refused cause n → next .stage ≡ 2
+        → SheetSaid q s (record { state = next; at = end + 1; check = check })
     refused cause n c two =
         record {
           stands = step-stands;
@@ -123,6 +124,7 @@ module _ (q : State) (s : List ℕ) (state : State) (at end : ℕ) (going : Goin
     goes-on c =
         record { stands = step-stands; same = λ e size r ends. step-same e size r ends ∙ rw c }
 
-pub past : (q : State) (s : List ℕ) (state : State) (at : ℕ) → Going q s state at → (state .stage ≡ 0 → ⊥) → SheetSaid q s (record { state = state; at = at; check = SettingsCheck.Accepted })
+pub past : (q : State) (s : List ℕ) (state : State) (at : ℕ) → Going q s state at → (state .stage ≡ 0 → ⊥)
+    → SheetSaid q s (record { state = state; at = at; check = SettingsCheck.Accepted })
 past q s state at going other =
     record { stands = going .stands; same = going .same; stuck = λ p. absurd (other (eqb-true (state .stage) 0 p)) }

@@ -96,7 +96,8 @@ module _ (e : Equipment) (ends : Bool) (s d : List ℕ) (h : Handled) (inside : 
     rest-length : length rest ≡ length s - h .at
     rest-length = length-drop (h .at) s
 
-    pub closes : ends ≡ true → (d′ : List ℕ) (w′ : ℕ) → ((l : List ℕ) → length l ≡ length s - h .at → Wrote d (h .written) d′ w′ (endText (h .state) l)) → (next : State) → next ≡ stopped (h .state) (length s - h .at)
+    pub closes : ends ≡ true → (d′ : List ℕ) (w′ : ℕ) → ((l : List ℕ) → length l ≡ length s - h .at → Wrote d (h .written) d′ w′ (endText (h .state) l))
+        → (next : State) → next ≡ stopped (h .state) (length s - h .at)
         → Closed e ends s d h d′ (record { state = next; at = length s; written = w′ })
     closes p d′ w′ wrote next is =
         record {

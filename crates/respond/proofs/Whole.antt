@@ -30,7 +30,8 @@ use Rattle.respond.proofs.Buffers.{wrote-none, wrote-length}
 
 -- ---- the sheet's lines, written
 
-pub sheet-carried : (e : Equipment) (q : State) (s d d′ : List ℕ) (r : SheetLines) (w : ℕ) → SheetSaid q s r → lineRoom ≤ length d → Wrote d 0 d′ w (checkText (r .check))
+pub sheet-carried : (e : Equipment) (q : State) (s d d′ : List ℕ) (r : SheetLines) (w : ℕ) → SheetSaid q s r → lineRoom ≤ length d
+    → Wrote d 0 d′ w (checkText (r .check))
     → Carried e s d (begun q) d′ (record { state = r .state; at = r .at; written = w })
 sheet-carried e q s d d′ r w said room wrote =
     record { stands = said .stands; text = checkText (r .check); wrote = wrote; same = same }
@@ -80,7 +81,12 @@ module _ (e : Equipment) (s d d₁ d₂ : List ℕ) (h a : Handled) (first : Car
       let t = first .stands in
       let u = second .stands in
       record {
-        stands = record { later = omega (arith, t .later, u .later); inside = u .inside; taken = omega (arith, t .taken, u .taken, t .later, u .later); fit = u .fit };
+        stands = record {
+          later = omega (arith, t .later, u .later);
+          inside = u .inside;
+          taken = omega (arith, t .taken, u .taken, t .later, u .later);
+          fit = u .fit;
+        };
         text = first .text ++ second .text;
         wrote = and-then (first .wrote) (second .wrote);
         same = λ before l ends.
@@ -114,7 +120,8 @@ pub wild : (e : Equipment) (q : State) (block : List ℕ) (last : Bool) (d : Lis
 unfolding respondOf readState
 wild e q block last d next odd is =
     let said : respondOf e q block last (length d) ≡ record { state = stopped q 0; text = [] }
-    = rw odd (handled-stops e (last || leb (budget q) (length block)) (length d) (record { state = stopped q 0; text = [] }) (linesIn (take (budget q) block)) refl) in
+    = rw odd (handled-stops e (last || leb (budget q) (length block)) (length d) (record { state = stopped q 0; text = [] })
+    (linesIn (take (budget q) block)) refl) in
     record {
       state = is ∙ sym (ap (λ (k : Said). k .state) said);
       taken = rw said (omega arith);

@@ -5,6 +5,7 @@ use mathlib.Core.List.{List}
 use Prim.Native.Nat.{ℕ, _<_, _^_}
 use native.Mathlib.Omega.{arith}
 use lib.ListN.{length}
+use Rattle.basics.proofs.Refusals.{number-bounds}
 use Rattle.rules.specs.Samples.{Slice}
 use Rattle.rules.specs.Regions.{ourEquipment}
 use Rattle.rules.specs.Refusals.{refusalNumber, settingsNumber, lineOf, answerNumber, savedNumber}
@@ -19,7 +20,6 @@ use Rattle.rules.specs.declared.Stepped.{Stepped}
 use Rattle.rules.specs.declared.Settings.{Settings}
 use Rattle.rules.specs.declared.SettingsCheck.{SettingsCheck}
 use Rattle.rules.specs.declared.Refusal.{Refusal}
-use Rattle.rules.specs.declared.Refusal.the-variants.{Form, Range, Rise, Code, Frequency, Permission, Power, Sample, Buffer}
 use Rattle.sheet.specs.Outcomes.{Gives}
 use Rattle.sheet.specs.declared.SheetOutcome.{SheetOutcome}
 use Rattle.saltdelta.specs.declared.SheetAnswer.{SheetAnswer}
@@ -28,26 +28,7 @@ use Rattle.saltdelta.specs.Answers.{recordAfter, reportAfter, reportOr, 
 -- a cause's number is small, and not 0
 
 pub number-small : (cause : Refusal) → refusalNumber cause < 2 ^ 32
-number-small Form = omega arith
-number-small Range = omega arith
-number-small Rise = omega arith
-number-small Code = omega arith
-number-small Frequency = omega arith
-number-small Permission = omega arith
-number-small Power = omega arith
-number-small Sample = omega arith
-number-small Buffer = omega arith
-
-pub number-positive : (cause : Refusal) → 0 < refusalNumber cause
-number-positive Form = omega arith
-number-positive Range = omega arith
-number-positive Rise = omega arith
-number-positive Code = omega arith
-number-positive Frequency = omega arith
-number-positive Permission = omega arith
-number-positive Power = omega arith
-number-positive Sample = omega arith
-number-positive Buffer = omega arith
+number-small cause = omega (arith, number-bounds cause)
 
 -- ---- a step
 

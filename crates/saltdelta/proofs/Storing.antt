@@ -18,7 +18,7 @@ use Rattle.saltdelta.specs.Answers.{recordAfter, reportAfter, reportOr, 
 use Rattle.saltdelta.specs.declared.StepCall.{StepCall}
 use Rattle.saltdelta.specs.declared.SheetCall.{SheetCall}
 use Rattle.saltdelta.specs.declared.SheetAnswer.{SheetAnswer}
-use Rattle.saltdelta.proofs.Answering.{number-positive}
+use Rattle.basics.proofs.Refusals.{number-bounds}
 use Rattle.saltdelta.proofs.Refusals.{record-kept, report-kept, settings-kept}
 
 -- ---- a step
@@ -39,7 +39,7 @@ module _ (b : Board) (s : Settings) (x : Slice) where
     where
       by : (a : Answer) → answerNumber a ≡ 0 → reportOr noReport a ≡ reportOr before a
       by (Answer.Reported r) h = refl
-      by (Answer.Refused cause) h = absurd (omega (arith, h, number-positive cause))
+      by (Answer.Refused cause) h = absurd (omega (arith, h, number-bounds cause .0))
 
   pub step-stored : (before : Report) (r : StepCall) → StepSays r → r .number ≡ 0 → StepLeaves before (r .board) (r .report) 0
   step-stored before r says zero = (says .0, says .1 ∙ whichever before (sym (says .2) ∙ zero), sym zero ∙ says .2)
@@ -64,7 +64,7 @@ module _ (s : List ℕ) where
     where
       by : (c : SettingsCheck) → settingsNumber c ≡ 0 → readSheet s .settings ≡ settingsOr before c (readSheet s .settings)
       by SettingsCheck.Accepted h = refl
-      by (SettingsCheck.Refused cause line) h = absurd (omega (arith, h, number-positive cause))
+      by (SettingsCheck.Refused cause line) h = absurd (omega (arith, h, number-bounds cause .0))
 
   pub sheet-stored : (before : Settings) (r : SheetCall) → SheetSays r → r .answer .number ≡ 0 → SheetLeaves before (r .settings) (r .answer)
   sheet-stored before r says zero =

@@ -11,7 +11,7 @@ use lib.ListN.{length, getD}
 use mir.Syntax.{w16, w32}
 use mir.Val.{SFits, toZ, ofZ}
 use mir.Facts.{toZ-ofZ}
-use Rattle.rules.specs.Tests.{any, within}
+use Rattle.rules.specs.Tests.{any}
 use Rattle.rules.specs.Settings.{settingsCheck, isAccepted, settingsAccepted}
 use Rattle.rules.specs.Samples.{Slice, Equipment, permitted, available, operatorLimit, mean, sampleCheck}
 use Rattle.rules.specs.Counters.{Rule, counted, full, broken, inRange, tripRules, readyRule, rules}
@@ -26,6 +26,7 @@ use Rattle.rules.specs.declared.Region.{Region}
 use Rattle.rules.specs.declared.Refusal.{Refusal}
 use Rattle.rules.specs.declared.SettingsCheck.{SettingsCheck}
 use Rattle.rules.specs.declared.SampleCheck.{SampleCheck}
+use Rattle.laws.proofs.Trace.{kept-service}
 use Rattle.laws.proofs.Curves.{fits16}
 use Rattle.laws.proofs.Least.{inTurn, in-turn}
 use Rattle.laws.proofs.SameRules.{SameRules, counted-same, full-same}
@@ -97,7 +98,8 @@ each-length f (r ∷ rs) (n ∷ ns) zero h l = absurd (omega arith)
 each-length f (r ∷ rs) (n ∷ ns) (suc k) h l = ap suc (each-length f rs ns k (suc-inj h) (suc-inj l))
 
 -- the last of the bits is ready's
-full-last : (rs : List Rule) (r : Rule) (ns : List ℕ) (k : ℕ) → length rs ≡ k → length ns ≡ suc k → each full (rs ++ (r ∷ [])) ns ≡ each full rs ns ++ (full r (getD ns k 0) ∷ [])
+full-last : (rs : List Rule) (r : Rule) (ns : List ℕ) (k : ℕ) → length rs ≡ k → length ns ≡ suc k
+    → each full (rs ++ (r ∷ [])) ns ≡ each full rs ns ++ (full r (getD ns k 0) ∷ [])
 unfolding each
 full-last [] r [] k h l = absurd (omega arith)
 full-last [] r (n ∷ ns) zero h l = refl
@@ -113,14 +115,6 @@ ramp-top was false continuous length old = omega arith
 ramp-top false true continuous length old = omega arith
 ramp-top true true true length old = omega arith
 ramp-top true true false length old = omega arith
-
-kept-service : (status : ℕ) → inService (cond (inService status) status 0) ≡ inService status
-unfolding within
-kept-service status = by (inService status) refl
-  where
-    by : (b : Bool) → inService status ≡ b → inService (cond b status 0) ≡ b
-    by true p = p
-    by false p = refl
 
 -- what `advance` works out before it settles the record and the report
 pub record Found : Type 0 where

@@ -20,7 +20,8 @@ joined true true false d = refl
 joined true false c d = refl
 joined false b c d = refl
 
-pub halves : (r : rules.Row) (p : Pair) → inRow r p ≡ ((leZ (r .firstLow) (p .first) && leZ (p .first) (r .firstHigh)) && (leZ (r .secondLow) (p .second) && leZ (p .second) (r .secondHigh)))
+pub halves : (r : rules.Row) (p : Pair)
+    → inRow r p ≡ ((leZ (r .firstLow) (p .first) && leZ (p .first) (r .firstHigh)) && (leZ (r .secondLow) (p .second) && leZ (p .second) (r .secondHigh)))
 unfolding inRow all
 halves r p =
     joined (leZ (r .firstLow) (p .first)) (leZ (p .first) (r .firstHigh)) (leZ (r .secondLow) (p .second)) (leZ (p .second) (r .secondHigh))

@@ -8,7 +8,7 @@ use native.Mathlib.Nat.{zero-add}
 use native.Mathlib.Omega.{arith}
 use borrow.Author.Tests.{ne-eqb}
 use lib.Dec.{eqb}
-use lib.ListN.{length, getD, drop, length-map, List·getD-map}
+use lib.ListN.{length, drop, length-map, List·getD-map}
 use Rattle.basics.proofs.Tables.{tabulated, tabulated-at}
 use Rattle.rules.specs.Settings.{sheetLines, linesOf, tripLine, pointPair}
 use Rattle.rules.specs.declared.Settings.{Settings}

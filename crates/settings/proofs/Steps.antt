@@ -80,7 +80,8 @@ module _ {A : Type 0} (r : Row) (ps : List Pair) (i : ℕ) (next : A) (refuse : 
   pub line-passes : lineFound r ps i ≡ SettingsCheck.Accepted → lineCheck r ps next refuse ≡ next
   line-passes e = by-tests (all (map (inRow r) ps)) (rising ps) e
     where
-      by-tests : (a b : Bool) → cond a (cond b SettingsCheck.Accepted (SettingsCheck.Refused Rise (i + 1))) (SettingsCheck.Refused Range (i + 1)) ≡ SettingsCheck.Accepted
+      by-tests : (a b : Bool)
+          → cond a (cond b SettingsCheck.Accepted (SettingsCheck.Refused Rise (i + 1))) (SettingsCheck.Refused Range (i + 1)) ≡ SettingsCheck.Accepted
           → cond a (cond b next (refuse Rise)) (refuse Range) ≡ next
       by-tests true true e = refl
       by-tests true false e = let z : _≡_ {A = ℕ} 0 1 = cc in absurd (omega arith)
@@ -90,7 +91,8 @@ module _ {A : Type 0} (r : Row) (ps : List Pair) (i : ℕ) (next : A) (refuse : 
   pub line-refuses : (cause : Refusal) (n : ℕ) → lineFound r ps i ≡ SettingsCheck.Refused cause n → (lineCheck r ps next refuse ≡ refuse cause) × (n ≡ i + 1)
   line-refuses cause n e = by-tests (all (map (inRow r) ps)) (rising ps) e
     where
-      by-tests : (a b : Bool) → cond a (cond b SettingsCheck.Accepted (SettingsCheck.Refused Rise (i + 1))) (SettingsCheck.Refused Range (i + 1)) ≡ SettingsCheck.Refused cause n
+      by-tests : (a b : Bool)
+          → cond a (cond b SettingsCheck.Accepted (SettingsCheck.Refused Rise (i + 1))) (SettingsCheck.Refused Range (i + 1)) ≡ SettingsCheck.Refused cause n
           → (cond a (cond b next (refuse Rise)) (refuse Range) ≡ refuse cause) × (n ≡ i + 1)
       by-tests true true e = let z : _≡_ {A = ℕ} 0 1 = cc in absurd (omega arith)
       by-tests true false e = (cc, cc)

@@ -31,7 +31,8 @@ module _ (s : List ℕ) (check : SettingsCheck) (start : ℕ) where
   rest-part e = take-all (length s - start) (drop start s) (omega (arith, length-drop start s)) ∙ sym (ap (λ (k : SettingsCheck). partOf k (drop start s)) e)
 
   -- the refused line
-  pub line-part : (cause : Refusal) (n end : ℕ) → check ≡ SettingsCheck.Refused cause n → end ≡ start + length (firstLine (drop start s)) → take (end - start) (drop start s) ≡ partOf check (drop start s)
+  pub line-part : (cause : Refusal) (n end : ℕ) → check ≡ SettingsCheck.Refused cause n → end ≡ start + length (firstLine (drop start s))
+      → take (end - start) (drop start s) ≡ partOf check (drop start s)
   line-part cause n end e p =
       let long : end - start ≡ length (firstLine (drop start s)) = omega arith in
       ap (λ (k : ℕ). take k (drop start s)) long ∙ line-take (drop start s) ∙ sym (ap (λ (k : SettingsCheck). partOf k (drop start s)) e)
@@ -40,7 +41,8 @@ pub line-inside : (s : List ℕ) (start end : ℕ) → start ≤ length s → en
 line-inside s start end h p = omega (arith, line-length (drop start s), length-drop start s)
 
 -- the part from the start that the rules find, by the check that they find, is the one handed back
-pub handed-back : (s r : RefT (List ℕ)) (check : SettingsCheck) (start : ℕ) → check ≡ readSheet (now s) .check → start ≡ readSheet (now s) .start → start ≤ length (now s)
+pub handed-back : (s r : RefT (List ℕ)) (check : SettingsCheck) (start : ℕ) → check ≡ readSheet (now s) .check → start ≡ readSheet (now s) .start
+    → start ≤ length (now s)
     → IsPartFrom check start s r → IsPart s r
 unfolding handedBack
 handed-back s r check start checked begun inside p =

@@ -33,5 +33,6 @@ module _ (i : ℕ) (st : Settings) where
       let same : next ≡ withNumbers st i (padded ns) = p ∙ ap (λ (k : Numbers). withNumbers st i (k .n)) e in
       made (q ∙ ap (λ (s : Settings). lineFound (rowAt i) (lineAt s i) i) same) same
     where
-      made : {c c′ : SettingsCheck} {s s′ : Settings} → c ≡ c′ → s ≡ s′ → _≡_ {A = LineRead} (record { check = c; settings = s }) (record { check = c′; settings = s′ })
+      made : {c c′ : SettingsCheck} {s s′ : Settings} → c ≡ c′ → s ≡ s′
+          → _≡_ {A = LineRead} (record { check = c; settings = s }) (record { check = c′; settings = s′ })
       made u v = rw (u, v)

@@ -69,14 +69,17 @@ module _ (s : List ℕ) (i at : ℕ) (lines : List (List Pair)) (h : i < sheetLi
       line-after (drop at s) e ∙ drop-drop (length line + 1) at s ∙ ap (λ (n : ℕ). drop n s) same
 
   opened : from s i at lines
-      ≡ onNumbers (i + 1) at (rowAt i) (numbersOf (getD sheetForms i []) line) (λ ps. readFrom (suc (i + 1)) past (lines ++ (ps ∷ [])) (drop (suc i) rows) (drop (suc i) sheetForms) (afterLine (drop at s)))
+      ≡ onNumbers (i + 1) at (rowAt i) (numbersOf (getD sheetForms i []) line)
+      (λ ps. readFrom (suc (i + 1)) past (lines ++ (ps ∷ [])) (drop (suc i) rows) (drop (suc i) sheetForms) (afterLine (drop at s)))
   unfolding readFrom
   opened =
       let r : i < length rows = omega (arith, rows-long) in
       let f : i < length sheetForms = omega (arith, forms-long) in
       rw (drop-cons rows i (row 0 0 0 0), drop-cons sheetForms i [], e)
 
-  on-with : (ps : List Pair) → readFrom (suc (i + 1)) past (lines ++ (ps ∷ [])) (drop (suc i) rows) (drop (suc i) sheetForms) (afterLine (drop at s)) ≡ from s (i + 1) past (lines ++ (ps ∷ []))
+  on-with : (ps : List Pair)
+      → readFrom (suc (i + 1)) past (lines ++ (ps ∷ [])) (drop (suc i) rows) (drop (suc i) sheetForms) (afterLine (drop at s))
+      ≡ from s (i + 1) past (lines ++ (ps ∷ []))
   on-with ps = rw (add-one (i + 1), add-one i, after-line)
 
   from-ended : from s i at lines ≡ onNumbers (i + 1) at (rowAt i) (numbersOf (formAt i) line) (λ ps. from s (i + 1) past (lines ++ (ps ∷ [])))
@@ -93,7 +96,8 @@ module _ (s : List ℕ) (i at : ℕ) (lines : List (List Pair)) (h : i < sheetLi
     pub reading : from s i at lines ≡ from s (i + 1) past (lines ++ (read ∷ []))
 
   module _ (long : length lines ≡ i) where
-    accepted-numbers : (ns : List ℤ) → numbersOf (formAt i) line ≡ some ns → lineFound (rowAt i) (lineAt (withNumbers (settingsOf lines) i (padded ns)) i) i ≡ SettingsCheck.Accepted
+    accepted-numbers : (ns : List ℤ) → numbersOf (formAt i) line ≡ some ns
+        → lineFound (rowAt i) (lineAt (withNumbers (settingsOf lines) i (padded ns)) i) i ≡ SettingsCheck.Accepted
         → Gone (withNumbers (settingsOf lines) i (padded ns))
     accepted-numbers ns p c =
         let suit = line-written (formAt i) line ns p .suit in
@@ -103,7 +107,8 @@ module _ (s : List ℕ) (i at : ℕ) (lines : List (List Pair)) (h : i < sheetLi
           settings = one-more lines i long h ns suit;
           reading =
               from-ended ∙ ap (λ (o : Option (List ℤ)). onNumbers (i + 1) at (rowAt i) o (λ ps. from s (i + 1) past (lines ++ (ps ∷ [])))) p
-              ∙ line-passes (rowAt i) (pairs ns) i (from s (i + 1) past (lines ++ (pairs ns ∷ []))) (λ cause. refusedAt cause (i + 1) at) (sym (ap (λ (ps : List Pair). lineFound (rowAt i) ps i) here) ∙ c);
+              ∙ line-passes (rowAt i) (pairs ns) i (from s (i + 1) past (lines ++ (pairs ns ∷ []))) (λ cause. refusedAt cause (i + 1) at)
+              (sym (ap (λ (ps : List Pair). lineFound (rowAt i) ps i) here) ∙ c);
         }
 
     refused-numbers : (ns : List ℤ) → numbersOf (formAt i) line ≡ some ns → (cause : Refusal) (n : ℕ)
@@ -112,7 +117,8 @@ module _ (s : List ℕ) (i at : ℕ) (lines : List (List Pair)) (h : i < sheetLi
     refused-numbers ns p cause n c =
         let suit = line-written (formAt i) line ns p .suit in
         let here = in-line (settingsOf lines) (eight-limits lines) i h ns suit in
-        let l = line-refuses (rowAt i) (pairs ns) i (from s (i + 1) past (lines ++ (pairs ns ∷ []))) (λ k. refusedAt k (i + 1) at) cause n (sym (ap (λ (ps : List Pair). lineFound (rowAt i) ps i) here) ∙ c) in
+        let l = line-refuses (rowAt i) (pairs ns) i (from s (i + 1) past (lines ++ (pairs ns ∷ []))) (λ k. refusedAt k (i + 1) at) cause n
+        (sym (ap (λ (ps : List Pair). lineFound (rowAt i) ps i) here) ∙ c) in
         (from-ended ∙ ap (λ (o : Option (List ℤ)). onNumbers (i + 1) at (rowAt i) o (λ ps. from s (i + 1) past (lines ++ (ps ∷ [])))) p ∙ l .0, l .1)
 
     -- the two together, for what `read_line` gives
@@ -138,14 +144,18 @@ module _ (s : List ℕ) (i at : ℕ) (lines : List (List Pair)) (h : i < sheetLi
         by none p =
             let same : SettingsCheck.Refused Form (i + 1) ≡ SettingsCheck.Refused cause n
             = sym (ap (λ (k : LineRead). k .check) (q ∙ ap (onLine i (settingsOf lines)) p)) ∙ c in
-            let f : Form ≡ cause = cc in
-            (from-ended ∙ ap (λ (o : Option (List ℤ)). onNumbers (i + 1) at (rowAt i) o (λ ps. from s (i + 1) past (lines ++ (ps ∷ [])))) p ∙ ap (λ (k : Refusal). refusedAt k (i + 1) at) f, cc)
+            let f : Form ≡ cause = cc in (
+              from-ended ∙ ap (λ (o : Option (List ℤ)). onNumbers (i + 1) at (rowAt i) o (λ ps. from s (i + 1) past (lines ++ (ps ∷ [])))) p
+                  ∙ ap (λ (k : Refusal). refusedAt k (i + 1) at) f,
+              cc,
+            )
         by (some ns) p =
             let is : r ≡ onLine i (settingsOf lines) (some ns) = q ∙ ap (onLine i (settingsOf lines)) p in
             refused-numbers ns p cause n (sym (ap (λ (k : LineRead). k .check) is) ∙ c)
 
 -- past the last line
-pub from-end : (s : List ℕ) (i at : ℕ) (lines : List (List Pair)) → sheetLines ≤ i → from s i at lines ≡ record { check = SettingsCheck.Accepted; settings = settingsOf lines; start = at }
+pub from-end : (s : List ℕ) (i at : ℕ) (lines : List (List Pair)) → sheetLines ≤ i
+    → from s i at lines ≡ record { check = SettingsCheck.Accepted; settings = settingsOf lines; start = at }
 unfolding readFrom
 from-end s i at lines h = rw (drop-of-length-le rows {i = i} (omega (arith, rows-long)))
 
@@ -174,7 +184,8 @@ read-is s i at end settings lines r e p q =
 module _ (s : List ℕ) (settings : Settings) (at i end : ℕ) (going : Going s settings at i) (h : i < sheetLines)
     (place : end ≡ at + length (firstLine (drop at s))) (ended : ltb end (length s) ≡ hasFeed (drop at s)) where
   -- an unended or missing line
-  pub unended : length s ≤ end → (n : ℕ) (zeros : Settings) → n ≡ i + 1 → zeros ≡ settingsOf [] → Gives (record { check = SettingsCheck.Refused Form n; settings = zeros; start = at }) (readSheet s)
+  pub unended : length s ≤ end → (n : ℕ) (zeros : Settings) → n ≡ i + 1 → zeros ≡ settingsOf []
+      → Gives (record { check = SettingsCheck.Refused Form n; settings = zeros; start = at }) (readSheet s)
   unended l n zeros p q =
       let is : readSheet s ≡ refusedAt Form (i + 1) at = going .reading ∙ from-unended s i at (going .lines) h (sym ended ∙ le-ltb end (length s) l) in
       rw is (record { check = ap (SettingsCheck.Refused Form) p; settings = q; start = refl })
@@ -205,6 +216,7 @@ module _ (s : List ℕ) (settings : Settings) (at i end : ℕ) (going : Going s 
         let k = on-refused s i at (going .lines) h feed-there (going .long) r line-is cause n c in
         rw (going .reading ∙ k .0) (record { check = c ∙ ap (SettingsCheck.Refused cause) (k .1); settings = q; start = refl })
 
-pub finished : (s : List ℕ) (settings : Settings) (at i : ℕ) → Going s settings at i → sheetLines ≤ i → Gives (record { check = SettingsCheck.Accepted; settings = settings; start = at }) (readSheet s)
+pub finished : (s : List ℕ) (settings : Settings) (at i : ℕ) → Going s settings at i → sheetLines ≤ i
+    → Gives (record { check = SettingsCheck.Accepted; settings = settings; start = at }) (readSheet s)
 finished s settings at i going l =
     rw (going .reading ∙ from-end s i at (going .lines) l) (record { check = refl; settings = going .held; start = refl })

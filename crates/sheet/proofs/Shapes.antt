@@ -1,7 +1,7 @@
 -- The numbers of a line by the marks of its form: two of no sign, or those of a curve.
 -- Assumes nothing.
 use mathlib.Core.Path.{_≡_, refl, sym, ap, _∙_}
-use mathlib.Core.Bool.{Bool, true, false, _&&_, false≢true}
+use mathlib.Core.Bool.{true, false, false≢true}
 use mathlib.Core.List.{List, [], _∷_, _++_, map}
 use Prim.Native.Nat.{ℕ, _<_}
 use lib.Dec.{leb}
@@ -31,7 +31,8 @@ marks-at i = sym (List·getD-map marksOf forms i [])
 
 -- the first eleven lines have two numbers
 two-marks : (i : ℕ) → i < 11 → marksOf (formAt i) ≡ 35 ∷ 35 ∷ []
-two-marks i h = marks-at i ∙ ap (λ (l : List (List ℕ)). getD l i []) marks-table ∙ List·getD-append (replicate 11 (35 ∷ 35 ∷ [])) longMarks [] i h ∙ getD-replicate 11 i (35 ∷ 35 ∷ []) [] h
+two-marks i h = marks-at i ∙ ap (λ (l : List (List ℕ)). getD l i []) marks-table ∙ List·getD-append (replicate 11 (35 ∷ 35 ∷ [])) longMarks [] i h
+    ∙ getD-replicate 11 i (35 ∷ 35 ∷ []) [] h
 
 -- ---- numbers, one mark at a time
 
@@ -75,7 +76,11 @@ two-numbers i h ns e =
     let s : suits (35 ∷ 35 ∷ []) ns ≡ true = ap (λ (m : List ℕ). suits m ns) (sym (two-marks i h)) ∙ sym (suits-marks (formAt i) ns) ∙ e in
     let a = plain-first (35 ∷ []) ns s in
     let b = plain-first [] (a .rest) (a .suit) in
-    record { first = a .number; second = b .number; is = a .is ∙ ap (λ (l : List ℤ). pos (a .number) ∷ l) (b .is ∙ ap (λ (l : List ℤ). pos (b .number) ∷ l) (none-left (b .rest) (b .suit))) }
+    record {
+      first = a .number;
+      second = b .number;
+      is = a .is ∙ ap (λ (l : List ℤ). pos (a .number) ∷ l) (b .is ∙ ap (λ (l : List ℤ). pos (b .number) ∷ l) (none-left (b .rest) (b .suit)));
+    }
 
 pub record Four (ns : List ℤ) : Type 0 where
   pub a : ℕ
@@ -86,7 +91,8 @@ pub record Four (ns : List ℤ) : Type 0 where
 
 pub watt-numbers : (ns : List ℤ) → suits (formAt 12) ns ≡ true → Four ns
 watt-numbers ns e =
-    let s : suits wattMarks ns ≡ true = ap (λ (m : List ℕ). suits m ns) (sym (marks-at 12 ∙ ap (λ (l : List (List ℕ)). getD l 12 []) marks-table)) ∙ sym (suits-marks (formAt 12) ns) ∙ e in
+    let s : suits wattMarks ns ≡ true
+    = ap (λ (m : List ℕ). suits m ns) (sym (marks-at 12 ∙ ap (λ (l : List (List ℕ)). getD l 12 []) marks-table)) ∙ sym (suits-marks (formAt 12) ns) ∙ e in
     let p = plain-first (35 ∷ 35 ∷ 35 ∷ []) ns s in
     let q = plain-first (35 ∷ 35 ∷ []) (p .rest) (p .suit) in
     let r = plain-first (35 ∷ []) (q .rest) (q .suit) in
@@ -96,7 +102,9 @@ watt-numbers ns e =
       b = q .number;
       c = r .number;
       d = t .number;
-      is = p .is ∙ ap (λ (l : List ℤ). pos (p .number) ∷ l) (q .is ∙ ap (λ (l : List ℤ). pos (q .number) ∷ l) (r .is ∙ ap (λ (l : List ℤ). pos (r .number) ∷ l) (t .is ∙ ap (λ (l : List ℤ). pos (t .number) ∷ l) (none-left (t .rest) (t .suit)))));
+      is = p .is ∙ ap (λ (l : List ℤ). pos (p .number) ∷ l)
+          (q .is ∙ ap (λ (l : List ℤ). pos (q .number) ∷ l)
+          (r .is ∙ ap (λ (l : List ℤ). pos (r .number) ∷ l) (t .is ∙ ap (λ (l : List ℤ). pos (t .number) ∷ l) (none-left (t .rest) (t .suit)))));
     }
 
 -- a voltage and a power
@@ -126,7 +134,8 @@ pub record Eight (ns : List ℤ) : Type 0 where
 
 pub var-numbers : (ns : List ℤ) → suits (formAt 11) ns ≡ true → Eight ns
 var-numbers ns e =
-    let t : suits varMarks ns ≡ true = ap (λ (m : List ℕ). suits m ns) (sym (marks-at 11 ∙ ap (λ (l : List (List ℕ)). getD l 11 []) marks-table)) ∙ sym (suits-marks (formAt 11) ns) ∙ e in
+    let t : suits varMarks ns ≡ true
+    = ap (λ (m : List ℕ). suits m ns) (sym (marks-at 11 ∙ ap (λ (l : List (List ℕ)). getD l 11 []) marks-table)) ∙ sym (suits-marks (formAt 11) ns) ∙ e in
     let k = pointed (35 ∷ 126 ∷ 35 ∷ 126 ∷ 35 ∷ 126 ∷ []) ns t in
     let l = pointed (35 ∷ 126 ∷ 35 ∷ 126 ∷ []) (k .rest) (k .suit) in
     let m = pointed (35 ∷ 126 ∷ []) (l .rest) (l .suit) in

@@ -31,7 +31,9 @@ module _ (st : Settings) (eight : length (st .trip) ≡ 8) (x y : ℕ) where
   unfolding withNumbers
   in-trip i h =
       trip-at (withNumbers st i (padded two)) i h
-      ∙ ap (λ (l : Limit). pair (pos (l .level)) (pos (l .clearing)) ∷ []) (ap (λ (b : Bool). getD (cond b (set (st .trip) i (limitIn (padded two))) (st .trip)) i noLimit) (lt-ltb i 8 h) ∙ getD-set-same (st .trip) i (limitIn (padded two)) noLimit (omega arith))
+      ∙ ap (λ (l : Limit). pair (pos (l .level)) (pos (l .clearing)) ∷ [])
+      (ap (λ (b : Bool). getD (cond b (set (st .trip) i (limitIn (padded two))) (st .trip)) i noLimit) (lt-ltb i 8 h)
+      ∙ getD-set-same (st .trip) i (limitIn (padded two)) noLimit (omega arith))
 
   in-volts : lineAt (withNumbers st 8 (padded two)) 8 ≡ pair (pos x) (pos y) ∷ []
   unfolding withNumbers linesOf
@@ -48,7 +50,8 @@ module _ (st : Settings) (eight : length (st .trip) ≡ 8) (x y : ℕ) where
   in-two : (i : ℕ) → i < 11 → lineAt (withNumbers st i (padded two)) i ≡ pair (pos x) (pos y) ∷ []
   in-two i h = by (decLt i 8) (decLt i 9) (decLt i 10)
     where
-      at : (k : ℕ) → i ≡ k → lineAt (withNumbers st k (padded two)) k ≡ pair (pos x) (pos y) ∷ [] → lineAt (withNumbers st i (padded two)) i ≡ pair (pos x) (pos y) ∷ []
+      at : (k : ℕ) → i ≡ k → lineAt (withNumbers st k (padded two)) k ≡ pair (pos x) (pos y) ∷ []
+          → lineAt (withNumbers st i (padded two)) i ≡ pair (pos x) (pos y) ∷ []
       at k e l = subst (λ (j : ℕ). lineAt (withNumbers st j (padded two)) j ≡ pair (pos x) (pos y) ∷ []) (sym e) l
 
       by : Dec (i < 8) → Dec (i < 9) → Dec (i < 10) → lineAt (withNumbers st i (padded two)) i ≡ pair (pos x) (pos y) ∷ []
@@ -66,7 +69,8 @@ in-watt : (st : Settings) (a b c d : ℕ) → lineAt (withNumbers st 12 (padded 
 unfolding withNumbers linesOf
 in-watt st a b c d = refl
 
-pub in-line : (st : Settings) → length (st .trip) ≡ 8 → (i : ℕ) → i < sheetLines → (ns : List ℤ) → suits (formAt i) ns ≡ true → lineAt (withNumbers st i (padded ns)) i ≡ pairs ns
+pub in-line : (st : Settings) → length (st .trip) ≡ 8 → (i : ℕ) → i < sheetLines → (ns : List ℤ) → suits (formAt i) ns ≡ true
+    → lineAt (withNumbers st i (padded ns)) i ≡ pairs ns
 in-line st eight i h ns e = by (decLt i 11) (decLt i 12)
   where
     to : (k : ℕ) → i ≡ k → suits (formAt k) ns ≡ true
@@ -81,7 +85,9 @@ in-line st eight i h ns e = by (decLt i 11) (decLt i 12)
         subst (λ (l : List ℤ). lineAt (withNumbers st i (padded l)) i ≡ pairs l) (sym (t .is)) (in-two st eight (t .first) (t .second) i a)
     by (no a) (yes b) =
         let v = var-numbers ns (to 11 (omega arith)) in
-        from 11 (omega arith) (subst (λ (l : List ℤ). lineAt (withNumbers st 11 (padded l)) 11 ≡ pairs l) (sym (v .is)) (in-var st (v .a) (v .b) (v .c) (v .d) (v .p) (v .q) (v .r) (v .s)))
+        from 11 (omega arith)
+        (subst (λ (l : List ℤ). lineAt (withNumbers st 11 (padded l)) 11 ≡ pairs l) (sym (v .is))
+        (in-var st (v .a) (v .b) (v .c) (v .d) (v .p) (v .q) (v .r) (v .s)))
     by (no a) (no b) =
         let w = watt-numbers ns (to 12 (omega arith)) in
         from 12 (omega arith) (subst (λ (l : List ℤ). lineAt (withNumbers st 12 (padded l)) 12 ≡ pairs l) (sym (w .is)) (in-watt st (w .a) (w .b) (w .c) (w .d)))
@@ -129,7 +135,8 @@ module _ (a b c d : ℕ) (p q r s : ℤ) where
   var-more : (read : List (List Pair)) → length read ≡ 11 → withNumbers (settingsOf read) 11 (padded var) ≡ settingsOf (read ++ (pairs var ∷ []))
   unfolding withNumbers settingsOf
   var-more read e =
-      eleven (λ (k : List (List Pair)). withNumbers (settingsOf k) 11 (padded var) ≡ settingsOf (k ++ (pairs var ∷ []))) (λ r0 r1 r2 r3 r4 r5 r6 r7 r8 r9 r10. refl) read e
+      eleven (λ (k : List (List Pair)). withNumbers (settingsOf k) 11 (padded var) ≡ settingsOf (k ++ (pairs var ∷ [])))
+      (λ r0 r1 r2 r3 r4 r5 r6 r7 r8 r9 r10. refl) read e
 
 -- twelve elements are one more than eleven
 watt-more : (a b c d : ℕ) (read : List (List Pair)) → length read ≡ 12
@@ -137,7 +144,8 @@ watt-more : (a b c d : ℕ) (read : List (List Pair)) → length read ≡ 12
 unfolding withNumbers settingsOf
 watt-more a b c d [] e = absurd (omega arith)
 watt-more a b c d (first ∷ read) e =
-    eleven (λ (k : List (List Pair)). withNumbers (settingsOf (first ∷ k)) 12 (padded (pos a ∷ pos b ∷ pos c ∷ pos d ∷ [])) ≡ settingsOf ((first ∷ k) ++ (pairs (pos a ∷ pos b ∷ pos c ∷ pos d ∷ []) ∷ []))) (λ r0 r1 r2 r3 r4 r5 r6 r7 r8 r9 r10. refl) read (omega arith)
+    eleven (λ (k : List (List Pair)). withNumbers (settingsOf (first ∷ k)) 12 (padded (pos a ∷ pos b ∷ pos c ∷ pos d ∷ []))
+    ≡ settingsOf ((first ∷ k) ++ (pairs (pos a ∷ pos b ∷ pos c ∷ pos d ∷ []) ∷ []))) (λ r0 r1 r2 r3 r4 r5 r6 r7 r8 r9 r10. refl) read (omega arith)
 
 pub one-more : (read : List (List Pair)) (i : ℕ) → length read ≡ i → i < sheetLines → (ns : List ℤ) → suits (formAt i) ns ≡ true
     → withNumbers (settingsOf read) i (padded ns) ≡ settingsOf (read ++ (pairs ns ∷ []))
@@ -146,22 +154,26 @@ one-more read i l h ns e = by (decLt i 11) (decLt i 12)
     to : (k : ℕ) → i ≡ k → suits (formAt k) ns ≡ true
     to k p = subst (λ (j : ℕ). suits (formAt j) ns ≡ true) p e
 
-    from : (k : ℕ) → i ≡ k → withNumbers (settingsOf read) k (padded ns) ≡ settingsOf (read ++ (pairs ns ∷ [])) → withNumbers (settingsOf read) i (padded ns) ≡ settingsOf (read ++ (pairs ns ∷ []))
+    from : (k : ℕ) → i ≡ k → withNumbers (settingsOf read) k (padded ns) ≡ settingsOf (read ++ (pairs ns ∷ []))
+        → withNumbers (settingsOf read) i (padded ns) ≡ settingsOf (read ++ (pairs ns ∷ []))
     from k p m = subst (λ (j : ℕ). withNumbers (settingsOf read) j (padded ns) ≡ settingsOf (read ++ (pairs ns ∷ []))) (sym p) m
 
     by : Dec (i < 11) → Dec (i < 12) → withNumbers (settingsOf read) i (padded ns) ≡ settingsOf (read ++ (pairs ns ∷ []))
     by (yes a) b =
         let t = two-numbers i a ns e in
         from (length read) (sym l)
-        (subst (λ (k : List ℤ). withNumbers (settingsOf read) (length read) (padded k) ≡ settingsOf (read ++ (pairs k ∷ []))) (sym (t .is)) (two-more read (t .first) (t .second) (omega arith)))
+        (subst (λ (k : List ℤ). withNumbers (settingsOf read) (length read) (padded k) ≡ settingsOf (read ++ (pairs k ∷ []))) (sym (t .is))
+        (two-more read (t .first) (t .second) (omega arith)))
     by (no a) (yes b) =
         let v = var-numbers ns (to 11 (omega arith)) in
         from 11 (omega arith)
-        (subst (λ (k : List ℤ). withNumbers (settingsOf read) 11 (padded k) ≡ settingsOf (read ++ (pairs k ∷ []))) (sym (v .is)) (var-more (v .a) (v .b) (v .c) (v .d) (v .p) (v .q) (v .r) (v .s) read (omega arith)))
+        (subst (λ (k : List ℤ). withNumbers (settingsOf read) 11 (padded k) ≡ settingsOf (read ++ (pairs k ∷ []))) (sym (v .is))
+        (var-more (v .a) (v .b) (v .c) (v .d) (v .p) (v .q) (v .r) (v .s) read (omega arith)))
     by (no a) (no b) =
         let w = watt-numbers ns (to 12 (omega arith)) in
         from 12 (omega arith)
-        (subst (λ (k : List ℤ). withNumbers (settingsOf read) 12 (padded k) ≡ settingsOf (read ++ (pairs k ∷ []))) (sym (w .is)) (watt-more (w .a) (w .b) (w .c) (w .d) read (omega arith)))
+        (subst (λ (k : List ℤ). withNumbers (settingsOf read) 12 (padded k) ≡ settingsOf (read ++ (pairs k ∷ []))) (sym (w .is))
+        (watt-more (w .a) (w .b) (w .c) (w .d) read (omega arith)))
 
 pub eight-limits : (read : List (List Pair)) → length (settingsOf read .trip) ≡ 8
 unfolding settingsOf

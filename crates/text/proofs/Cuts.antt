@@ -40,7 +40,8 @@ cut-from : (n : ℕ) (fs : List (List ℕ)) (i : ℕ) → i < length fs → take
 cut-from n [] i h = absurd (omega arith)
 cut-from n (f ∷ fs) zero h = rw (sub-self n) (take-at f (concatenated fs) (length f) refl)
 cut-from n (f ∷ fs) (suc i) h =
-    let past : start (n + length f) fs i - n ≡ length f + (start (n + length f) fs i - (n + length f)) = omega (arith, starts-after (n + length f) fs i (omega arith)) in
+    let past : start (n + length f) fs i - n ≡ length f + (start (n + length f) fs i - (n + length f))
+    = omega (arith, starts-after (n + length f) fs i (omega arith)) in
     rw (past, drop-append-add f (concatenated fs)) (cut-from (n + length f) fs i (omega arith))
 
 module _ (fs : List (List ℕ)) (i : ℕ) (h : i < length fs) where

@@ -11,7 +11,8 @@ use lib.Dec.{eqb}
 use lib.IntN.{ℤ, pos, negsuc}
 use lib.ListN.{length, length-append}
 use Rattle.rules.specs.Tests.{within}
-use Rattle.rules.specs.Text.{feed, minus, isDigit, leadingDigits, afterDigits, valueAfter, wellFormed, signedDecimal, Taken, takeNumber, negated, takeSigned, firstLine, hasFeed}
+use Rattle.rules.specs.Text.{feed, minus, isDigit, leadingDigits, afterDigits, valueAfter, wellFormed, signedDecimal, Taken, takeNumber, negated}
+use Rattle.rules.specs.Text.{takeSigned, firstLine, hasFeed}
 use Rattle.rules.specs.Forms.{numberMark}
 use Rattle.formats.specs.Marks.{isMark, takeMarked}
 use Rattle.formats.proofs.Numbers.{marked-written}
@@ -190,7 +191,8 @@ text-plain mark form f rest p (b ∷ l) e = by-test (eqb b mark) refl e
 pub form-plain : (form l : List ℕ) (f : Formed) → hasFeed form ≡ false → takeForm form l ≡ some f → Plain l (f .rest)
 unfolding takeForm hasFeed
 form-plain [] l f p e =
-    subst (Plain l) (ap (λ (h : Formed). h .rest) (Option·some-injective (record { numbers = []; rest = l }) f e)) (record { before = []; text = refl; plain = refl })
+    subst (Plain l) (ap (λ (h : Formed). h .rest) (Option·some-injective (record { numbers = []; rest = l }) f e))
+    (record { before = []; text = refl; plain = refl })
 form-plain (mark ∷ form) l f p e = by-mark (isMark mark) refl e (λ k g. form-plain form k g (tests .1))
   where
     tests : (eqb mark feed ≡ false) × (hasFeed form ≡ false)

@@ -144,7 +144,8 @@ module _ (s : List ℕ) (start : ℕ) (slice : List ℕ) (k at : ℕ) (g : SoFar
     (x : Found) (e : FastField s at (closingByte k) x) where
   stored : takeForm sampleForm (drop start s) ≡ after (map pos (take (k + 1) (set slice k (x .value)))) (takeForm (spaced k (from (k + 1))) (drop (x .next) s))
   stored =
-      let longer : take (k + 1) (set slice k (x .value)) ≡ take k slice ++ (x .value ∷ []) = rw (add-one) (take-suc-set slice k (x .value) (omega (arith, g .size))) in
+      let longer : take (k + 1) (set slice k (x .value)) ≡ take k slice ++ (x .value ∷ [])
+      = rw (add-one) (take-suc-set slice k (x .value) (omega (arith, g .size))) in
       g .left
       ∙ rw (from-closing k h, e .same (spaced k (from (k + 1))), longer, map-append pos (take k slice) (x .value ∷ []))
       (after-after (map pos (take k slice)) (pos (x .value) ∷ []) (takeForm (spaced k (from (k + 1))) (drop (x .next) s)))
@@ -192,4 +193,5 @@ module _ (s : List ℕ) (start : ℕ) (slice : List ℕ) (k at : ℕ) (g : SoFar
       let inside : at < length s = omega (arith, g .bound, g .count) in
       let matched : Matched f s m = record { found = refl; numbers = refl; rest = refl; inside = omega arith } in
       let seven : take 7 (padded numbers) ≡ numbers = take-at numbers (replicate (8 - length numbers) (pos 0)) 7 (length-map slice pos ∙ g .size) in
-      sample-found s start m (omega arith) slice (at-feed s start m (omega arith) (some f) all-taken matched refl inside b) (rw (seven, map-map natAbs pos slice, map-id slice))
+      sample-found s start m (omega arith) slice (at-feed s start m (omega arith) (some f) all-taken matched refl inside b)
+      (rw (seven, map-map natAbs pos slice, map-id slice))

@@ -10,4 +10,5 @@ use lib.Seq.{take-suc, take-suc-set}
 
 pub stored-more : (n : List ℤ) (slice : List ℕ) (i v : ℕ) → i < length slice → i < length n → take i slice ≡ map natAbs (take i n)
     → v ≡ natAbs (getD n i (pos 0)) → take (i + 1) (set slice i v) ≡ map natAbs (take (i + 1) n)
-stored-more n slice i v h l e same = rw (add-one, take-suc-set slice i v h, e, same, take-suc n i (pos 0) l) (sym (map-append natAbs (take i n) (getD n i (pos 0) ∷ [])))
+stored-more n slice i v h l e same = rw (add-one, take-suc-set slice i v h, e, same, take-suc n i (pos 0) l)
+    (sym (map-append natAbs (take i n) (getD n i (pos 0) ∷ [])))

@@ -70,7 +70,8 @@ module _ (s : List ℕ) (at : ℕ) (r : Digits) (d : DigitsAt s at r) where
       → takeNumber (drop at s) ≡ some (record { value = pos (r .value); rest = drop (r .next) s })
   unfolding takeNumber
   well-taken one six lead =
-      let w : WellFormed (leadingDigits (drop at s)) = record { some = omega (arith, d .count); most = omega (arith, d .count); lead = λ z. omega (arith, d .count, lead (sym (first-byte one) ∙ z)) } in
+      let w : WellFormed (leadingDigits (drop at s))
+      = record { some = omega (arith, d .count); most = omega (arith, d .count); lead = λ z. omega (arith, d .count, lead (sym (first-byte one) ∙ z)) } in
       rw (formed-well (leadingDigits (drop at s)) w, ← d .value six, ← d .rest six)
 
 -- ---- after a minus

@@ -69,8 +69,12 @@ loop-less c =
     let t = c .before .before .before .before .before .before .before .before .before .respond .ensures .1 .0 in
     let n = length-take (length s - w .at) (drop (w .at) s) in
     let m = length-drop (w .at) s in
-    let left : length s - (w .at + c .before .before .before .before .before .before .before .before .before .respond .result .taken) ≡ length s - w .at - c .before .before .before .before .before .before .before .before .before .respond .result .taken = omega arith in
-    rw (c .before .before .before .before .before .before .before .before .before .before .before .before .loop-test .taken, left) (fewer (c .both2 .result) (c .before .both .result) (length s - w .at) (c .before .before .before .before .before .before .before .before .before .respond .result .taken) (c .both2 .ensures) (omega (arith, w .inv .0, n, m, t)))
+    let left : length s - (w .at + c .before .before .before .before .before .before .before .before .before .respond .result .taken) ≡ length s - w .at - c .before .before .before .before .before .before .before .before .before .respond .result .taken
+    = omega arith in
+    rw (c .before .before .before .before .before .before .before .before .before .before .before .before .loop-test .taken, left)
+    (fewer (c .both2 .result) (c .before .both .result) (length s - w .at)
+    (c .before .before .before .before .before .before .before .before .before .respond .result .taken) (c .both2 .ensures)
+    (omega (arith, w .inv .0, n, m, t)))
 
 loop-again : tie.Need-loop-again Inv-loop μ-loop
 loop-again c =
@@ -79,11 +83,24 @@ loop-again c =
     let t = c .before .before .before .before .before .before .before .before .before .respond .ensures .1 .0 in
     let n = length-take (length s - w .at) (drop (w .at) s) in
     let m = length-drop (w .at) s in
-    let room : lineRoom ≤ length (w .out) = omega (arith, w .inv .1, c .before .before .before .before .before .before .before .before .before .before .before .before .before .before .before .before .pre) in (
+    let room : lineRoom ≤ length (w .out)
+    = omega (
+      arith,
+      w .inv .1,
+      c .before .before .before .before .before .before .before .before .before .before .before .before .before .before .before .before .pre,
+    ) in (
       omega (arith, w .inv .0, n, m, t),
       search needs,
-      rest-short (c .both2 .result) (c .before .both .result) (c .before .before .before .before .before .before .before .before .before .respond .result .done) (c .before .before .before .before .write-all .result) (c .before .before .before .before .before .before .before .before .before .respond .result .taken) (c .both2 .ensures) (c .before .both .ensures)
-          (λ going none. let short = c .before .before .before .before .before .before .before .before .before .respond .ensures .1 .1 room going none in omega (arith, n, m, short)),
+      rest-short (c .both2 .result) (c .before .both .result)
+          (c .before .before .before .before .before .before .before .before .before .respond .result .done)
+          (c .before .before .before .before .write-all .result)
+          (c .before .before .before .before .before .before .before .before .before .respond .result .taken) (c .both2 .ensures) (c .before .both .ensures)
+          (λ going none. let short = c .before .before .before .before .before .before .before .before .before .respond .ensures .1 .1 room going none in omega (
+            arith,
+            n,
+            m,
+            short,
+          )),
     )
 
 same-length : tie.Need-same-length Inv-loop μ-loop

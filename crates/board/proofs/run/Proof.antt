@@ -65,7 +65,10 @@ both-requires c κs = search needs
 loop-less : tie.Need-loop-less Inv-loop μ-loop
 loop-less c =
     let r = c .before .before .before .before .before .before .before .before .before .before .before .before .before .before .before .read-to in
-    rw (c .before .before .before .before .before .before .before .before .before .before .before .before .before .before .before .before .before .loop-test .taken) (fewer (c .both .result) (c .before .before .before .before .before .before .before .before .answer .result .going) (c .before .before .before .before .before .before .before .before .before .before .before .before .before .before .before .before .before .before .loop .budget) (r .result .bytes) (c .both .ensures) (omega (arith, r .ensures .1)))
+    rw (c .before .before .before .before .before .before .before .before .before .before .before .before .before .before .before .before .before .loop-test .taken) (fewer (c .both .result) (c .before .before .before .before .before .before .before .before .answer .result .going) (c .before .before .before .before .before .before .before .before .before .before .before .before .before .before .before .before .before .before .loop .budget) (r .result .bytes) (c .both .ensures) (omega (
+      arith,
+      r .ensures .1,
+    )))
 
 loop-again : tie.Need-loop-again Inv-loop μ-loop
 loop-again c = (

@@ -173,7 +173,8 @@ module _ {M : Type 1} (𝓤 : URA M) (H : Heap 𝓤) (A : Atoms 𝓤) (W : Given
           peeks ! (ShrSlice (named 0) κ u8) (Is (ShrSlice (named 0) κ u8)) (shows 𝓤 H A (ShrSlice (named 0) κ u8)) l (u ∷ []) (λ is′.
           land ! (from ! (stop !)) (init ! 9 refl (shr-slice-lawful 𝓤 H A W erased κ u8 .typed l _ is′ .0)) $
           -- the struct is made of both
-          nothing ! $ move ! (1 ∷ 0 ∷ []) $ fjoin ! $ have ! settings (d .settings) (settings-of d _ is) $ fjoin ! $ have ! check (d .check) (check-of d _ is) $ fjoin ! $
+          nothing ! $ move ! (1 ∷ 0 ∷ []) $ fjoin ! $ have ! settings (d .settings) (settings-of d _ is) $ fjoin !
+          $ have ! check (d .check) (check-of d _ is) $ fjoin ! $
           use1 W (‵ (T.the-row α .own (made d l) (made-val d u ∷ []))) (makes 𝓤 H A W (check .row ∷ settings .row ∷ ShrSlice (named 0) κ u8 ∷ [])
           (all (d .check) (d .settings) l) (check .val (d .check) ∷ [], (settings .val (d .settings) ∷ [], (u ∷ [], tt)))) $
           peeks ! (T.the-row α) (Is (T.the-row α)) (shows 𝓤 H A (T.the-row α)) (made d l) (made-val d u ∷ []) (λ all-is.

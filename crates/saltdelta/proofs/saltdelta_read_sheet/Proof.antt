@@ -11,7 +11,8 @@ use Rattle.walk.proofs.Walking.{Lft, Share, Fml, ftrue, flft, Atoms, sem, Fun, 
 use Rattle.walk.proofs.Walking.{_$_, _∵_, !, qed, by, move, drop, use2, split, join, fjoin, frame, done, look, init, stop, fld, from, load, lit, bin}
 use Rattle.walk.proofs.Walking.{of-opd, and-then, no-more, assigns, first, branches, skips, exec, returns, returns-within}
 use Rattle.walk.proofs.Walking.{enter, alloc1, alloc0, params1, pass1, pass0, free0, whole, sub, look-in, Is, u8, RefT, at-last, ptr-vals, mut-tells}
-use Rattle.walk.proofs.Walking.{length, sliceVal, slice-vals, ShrSlice, shr-slice-tells, shr-slice-lawful, plain, nothing, Contract, Triple, onEntry, Meets, tripleOf}
+use Rattle.walk.proofs.Walking.{length, sliceVal, slice-vals, ShrSlice, shr-slice-tells, shr-slice-lawful, plain, nothing, Contract, Triple, onEntry}
+use Rattle.walk.proofs.Walking.{Meets, tripleOf}
 use Rattle.walk.proofs.Walking.{entered, cited, Stays, stay-ref, stay-none-slice, walkOf, goes-ref, goes-none-slice, ends-at, suffices, says, lasts, yes}
 use contract.Running.{tablesOf}
 use Rattle.walk.proofs.Locals.{envOf, cells, laid, upTo}

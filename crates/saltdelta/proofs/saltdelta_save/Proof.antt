@@ -95,7 +95,8 @@ module _ {M : Type 1} (𝓤 : URA M) (H : Heap 𝓤) (A : Atoms 𝓤) (W : Given
           (from ! (stop !)) (init ! 14 refl (mut-slice-lawful 𝓤 H A W erased κ₁ u8 .typed p₁ _ is₁ .0)) $
           -- they are passed; the buffer's last bytes and its token come back
           move ! (2 ∷ 3 ∷ []) $ use2 W (raw (Callee .pre to)) (asked g₀) $
-          calls-whole ! fm Callee known to (and-then ! (load ! (from ! (stop !)) (look ! 9 refl)) (and-then ! (load ! (from ! (stop !)) (look ! 13 refl)) (no-more !)))
+          calls-whole ! fm Callee known to
+          (and-then ! (load ! (from ! (stop !)) (look ! 9 refl)) (and-then ! (load ! (from ! (stop !)) (look ! 13 refl)) (no-more !)))
           (‵ (flft κ₁ q₁) ⊛ ‵ ftrue) number (lasts callee.ended (κ₁, tt) (p₀ .now, (p₁, tt))) (λ r ws. Says r (ws .1 .0)) (λ v. id⊢ 𝓤 _) (λ r ws e g.
           fsplit ! $ drop ! $ fsplit ! $ fsplit ! $ move ! (1 ∷ []) $ feqL ! (λ same. move ! (1 ∷ []) $ drop ! $
           move ! (1 ∷ []) $ split ! $ move ! (1 ∷ []) $ drop ! $

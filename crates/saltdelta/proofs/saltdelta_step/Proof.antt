@@ -153,7 +153,8 @@ module _ {M : Type 1} (𝓤 : URA M) (H : Heap 𝓤) (A : Atoms 𝓤) (W : Given
           (lasts callee.ended (κ₂, tt) (p₀ .now, (p₁ .now, (p₂, tt)))) (λ r ws. Says r) (λ v. id⊢ 𝓤 _) (λ r ws e g.
           drop ! $ split ! $ move ! (1 ∷ []) $ drop ! $ landed ! step-call r g 18 refl refl $
           -- the test; the parameters' items are put in order again
-          assigns ! (bin ! (load ! (from ! (fld ! refl (stop !))) (look-in ! 18 (sub ! 2 refl (whole !)))) (lit ! tt) tt) (from ! (stop !)) (init ! 24 refl (tt, tt)) $
+          assigns ! (bin ! (load ! (from ! (fld ! refl (stop !))) (look-in ! 18 (sub ! 2 refl (whole !)))) (lit ! tt) tt) (from ! (stop !))
+          (init ! 24 refl (tt, tt)) $
           move ! (4 ∷ 5 ∷ 2 ∷ 3 ∷ 1 ∷ 0 ∷ []) $ tested l0 l1 l2 l3 l4 l5 l6 l7 l8 r e g)))))))))))))
 
   meets : (𝓣 : Tables 𝓤 H) → Triple 𝓤 (𝓣 .C #saltdelta·step-call) Callee

@@ -50,8 +50,11 @@ loop-again c =
     let s = at .before .before .args .s in
     let i = at .loop .line in
     let row = row-here (at .before .table .result) (at .before .table .ensures) i in
-    let found : lineFound (rowAt i) (lineAt s i) i ≡ SettingsCheck.Accepted = rw (← row) (sym (c .before .before .line-check .ensures) ∙ c .enum-told .given .1) in
-    (omega arith, at .loop .inv .1 ∙ line-more s i (omega arith) ∙ line-passes (rowAt i) (lineAt s i) i (from s (i + 1)) (λ cause. SettingsCheck.Refused cause (i + 1)) found)
+    let found : lineFound (rowAt i) (lineAt s i) i ≡ SettingsCheck.Accepted = rw (← row) (sym (c .before .before .line-check .ensures) ∙ c .enum-told .given .1) in (
+      omega arith,
+      at .loop .inv .1 ∙ line-more s i (omega arith)
+          ∙ line-passes (rowAt i) (lineAt s i) i (from s (i + 1)) (λ cause. SettingsCheck.Refused cause (i + 1)) found,
+    )
 
 enum-told-2 : tie.Need-enum-told-2 Inv-loop μ-loop
 enum-told-2 c = search needs

@@ -61,8 +61,11 @@ loop-again c =
     let z = at .before .before in
     let f = inRow (rowOf (z .args .row)) in
     let l = lineAt (z .args .s) (z .args .line) in
-    let more = range-more l (at .loop .k) f (omega (arith, long z, at .before .pairs-in .ensures)) in
-    (omega arith, at .loop .inv .1 ∙ rw (more, ← c .before .before .pair-at .ensures, ← c .before .in-row .ensures, not-false (c .before .in-row .result) (c .if1 .left)))
+    let more = range-more l (at .loop .k) f (omega (arith, long z, at .before .pairs-in .ensures)) in (
+      omega arith,
+      at .loop .inv .1
+          ∙ rw (more, ← c .before .before .pair-at .ensures, ← c .before .in-row .ensures, not-false (c .before .in-row .result) (c .if1 .left)),
+    )
 
 returns-2 : tie.Need-returns-2 Inv-loop μ-loop
 returns-2 c =

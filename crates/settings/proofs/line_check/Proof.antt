@@ -25,12 +25,22 @@ returns c =
 returns-2 : tie.Need-returns-2
 returns-2 c =
     let found = c .before .before .before in
-    rw (← found .in-range .ensures, not-false (found .in-range .result) (c .before .if1 .left), ← c .before .before .rises .ensures, not-true (c .before .before .rises .result) (c .if2 .taken))
+    rw (
+      ← found .in-range .ensures,
+      not-false (found .in-range .result) (c .before .if1 .left),
+      ← c .before .before .rises .ensures,
+      not-true (c .before .before .rises .result) (c .if2 .taken),
+    )
 
 returns-3 : tie.Need-returns-3
 returns-3 c =
     let found = c .before .before .before in
-    rw (← found .in-range .ensures, not-false (found .in-range .result) (c .before .if1 .left), ← c .before .before .rises .ensures, not-false (c .before .before .rises .result) (c .if2 .left))
+    rw (
+      ← found .in-range .ensures,
+      not-false (found .in-range .result) (c .before .if1 .left),
+      ← c .before .before .rises .ensures,
+      not-false (c .before .before .rises .result) (c .if2 .left),
+    )
 
 pub line-check-spec : {M : Type 1} → statement M
 line-check-spec =

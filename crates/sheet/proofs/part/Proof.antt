@@ -14,7 +14,8 @@ part-from-requires c κs = search needs
 returns : tie.Need-returns
 returns c =
     let r = c .before .read in
-    handed-back (c .before .before .before .args .s) _ (r .result .check) (r .result .start) (r .ensures .0 .check) (r .ensures .0 .start) (r .ensures .1) (c .part-from .ensures)
+    handed-back (c .before .before .before .args .s) _ (r .result .check) (r .result .start) (r .ensures .0 .check) (r .ensures .0 .start) (r .ensures .1)
+    (c .part-from .ensures)
 
 pub part-spec : {M : Type 1} → statement M
 part-spec = tie.close (tie.spec read-requires part-from-requires returns)

@@ -57,7 +57,11 @@ returns-3 : tie.Need-returns-3
 returns-3 c =
     let a = c .before .before .before .before .before .before .args in
     let end = c .before .line-end in
-    record { bytes = line-part (now (a .s)) (a .check) (a .start) _ _ (end .result) (c .before .before .enum-told2 .given .1) (end .ensures .0); block = refl; place = omega arith }
+    record {
+      bytes = line-part (now (a .s)) (a .check) (a .start) _ _ (end .result) (c .before .before .enum-told2 .given .1) (end .ensures .0);
+      block = refl;
+      place = omega arith;
+    }
 
 pub part-from-spec : {M : Type 1} → statement M
 part-from-spec =

@@ -35,8 +35,10 @@ returns : tie.Need-returns Inv-loop μ-loop
 returns c =
     let w = c .before .before .before .before .before .loop in
     let s = now (c .before .before .before .before .before .before .before .before .args .s) in
-    let end = c .before .before .before .line-end in
-    (unended s (w .settings) (w .at) (w .i) (end .result) (w .inv) (omega arith) (end .ensures .0) (end .ensures .1) (omega arith) (c .before .number-of .result) (c .no-settings2 .result) (c .before .number-of .ensures) (c .no-settings2 .ensures), w .inv .inside)
+    let end = c .before .before .before .line-end in (
+      unended s (w .settings) (w .at) (w .i) (end .result) (w .inv) (omega arith) (end .ensures .0) (end .ensures .1) (omega arith) (c .before .number-of .result) (c .no-settings2 .result) (c .before .number-of .ensures) (c .no-settings2 .ensures),
+      w .inv .inside,
+    )
 
 sub-read-line : tie.Need-sub-read-line Inv-loop μ-loop
 sub-read-line c = search needs
@@ -67,7 +69,8 @@ loop-again c =
     let w = c .before .before .before .before .before .before .before .before .loop in
     let s = now (c .before .before .before .before .before .before .before .before .before .before .before .args .s) in
     let end = c .before .before .before .before .before .before .line-end in
-    goes-on s (w .settings) (w .at) (w .i) (end .result) (w .inv) (omega arith) (end .ensures .0) (end .ensures .1) (omega arith) (c .before .before .before .read-line .result) (c .before .before .before .read-line .ensures) (c .before .enum-told .given .1)
+    goes-on s (w .settings) (w .at) (w .i) (end .result) (w .inv) (omega arith) (end .ensures .0) (end .ensures .1) (omega arith)
+    (c .before .before .before .read-line .result) (c .before .before .before .read-line .ensures) (c .before .enum-told .given .1)
 
 enum-told-2 : tie.Need-enum-told-2 Inv-loop μ-loop
 enum-told-2 c = search needs
@@ -79,8 +82,10 @@ returns-2 : tie.Need-returns-2 Inv-loop μ-loop
 returns-2 c =
     let w = c .before .before .before .before .before .before .before .before .loop in
     let s = now (c .before .before .before .before .before .before .before .before .before .before .before .args .s) in
-    let end = c .before .before .before .before .before .before .line-end in
-    (stops s (w .settings) (w .at) (w .i) (end .result) (w .inv) (omega arith) (end .ensures .0) (end .ensures .1) (omega arith) (c .before .before .before .read-line .result) (c .before .before .before .read-line .ensures) _ _ (c .before .enum-told2 .given .1) (c .no-settings3 .result) (c .no-settings3 .ensures), w .inv .inside)
+    let end = c .before .before .before .before .before .before .line-end in (
+      stops s (w .settings) (w .at) (w .i) (end .result) (w .inv) (omega arith) (end .ensures .0) (end .ensures .1) (omega arith) (c .before .before .before .read-line .result) (c .before .before .before .read-line .ensures) _ _ (c .before .enum-told2 .given .1) (c .no-settings3 .result) (c .no-settings3 .ensures),
+      w .inv .inside,
+    )
 
 returns-3 : tie.Need-returns-3 Inv-loop μ-loop
 returns-3 c =

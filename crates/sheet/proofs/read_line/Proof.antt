@@ -21,7 +21,8 @@ unfolding lineRead
 returns c =
     let a = c .before .before .before .before .before .args in
     let read = c .before .before .before .form-numbers in
-    line-none (a .i) (a .before) (numbersOf (formAt (a .i)) (now (a .line))) (read .result) (read .ensures) (not-true (read .result .found) (c .before .if1 .taken)) (c .number-of .result) (c .number-of .ensures)
+    line-none (a .i) (a .before) (numbersOf (formAt (a .i)) (now (a .line))) (read .result) (read .ensures)
+    (not-true (read .result .found) (c .before .if1 .taken)) (c .number-of .result) (c .number-of .ensures)
 
 with-numbers-requires : tie.Need-with-numbers-requires
 with-numbers-requires c κs = search needs
@@ -34,7 +35,9 @@ unfolding lineRead
 returns-2 c =
     let a = c .before .before .before .before .before .before .before .args in
     let read = c .before .before .before .before .before .form-numbers in
-    line-some (a .i) (a .before) (numbersOf (formAt (a .i)) (now (a .line))) (read .result) (read .ensures) (not-false (read .result .found) (c .before .before .before .if1 .left)) (c .before .with-numbers .result) (c .check-line .result) (c .before .with-numbers .ensures) (c .check-line .ensures)
+    line-some (a .i) (a .before) (numbersOf (formAt (a .i)) (now (a .line))) (read .result) (read .ensures)
+    (not-false (read .result .found) (c .before .before .before .if1 .left)) (c .before .with-numbers .result) (c .check-line .result)
+    (c .before .with-numbers .ensures) (c .check-line .ensures)
 
 pub read-line-spec : {M : Type 1} → statement M
 read-line-spec =

@@ -16,13 +16,15 @@ returns : tie.Need-returns
 returns c =
     let a = c .before .before .before .before .args in
     let m = c .before .before .form-at in
-    match-whole (a .line .now) (m .result) (takeForm (formAt (a .form)) (a .line .now)) (m .ensures) (c .before .if1 .taken) ∙ ap numbersRead (sym (numbers-whole (formAt (a .form)) (a .line .now)))
+    match-whole (a .line .now) (m .result) (takeForm (formAt (a .form)) (a .line .now)) (m .ensures) (c .before .if1 .taken)
+    ∙ ap numbersRead (sym (numbers-whole (formAt (a .form)) (a .line .now)))
 
 returns-2 : tie.Need-returns-2
 returns-2 c =
     let a = c .before .before .before .args in
     let m = c .before .form-at in
-    match-short (a .line .now) (m .result) (takeForm (formAt (a .form)) (a .line .now)) (m .ensures) (c .if1 .left) ∙ ap numbersRead (sym (numbers-whole (formAt (a .form)) (a .line .now)))
+    match-short (a .line .now) (m .result) (takeForm (formAt (a .form)) (a .line .now)) (m .ensures) (c .if1 .left)
+    ∙ ap numbersRead (sym (numbers-whole (formAt (a .form)) (a .line .now)))
 
 pub form-numbers-spec : {M : Type 1} → statement M
 form-numbers-spec = tie.close (tie.spec form-at-requires returns returns-2)

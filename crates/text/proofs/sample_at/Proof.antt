@@ -38,7 +38,8 @@ returns-2 : tie.Need-returns-2
 returns-2 c =
     let b = c .before .before .before .before .before .before in
     let a = b .before .before .before .before in
-    let e = at-feed (a .args .s .now) (a .args .at) (b .match-at .result) (a .pre .1) (takeForm sampleForm (drop (a .args .at) (a .args .s .now))) refl (rw (a .pre .0) at (b .match-at .ensures)) (c .before .before .before .before .if3 .taken) (c .before .before .before .if4 .taken) (c .before .if5 .taken) in
+    let e = at-feed (a .args .s .now) (a .args .at) (b .match-at .result) (a .pre .1) (takeForm sampleForm (drop (a .args .at) (a .args .s .now))) refl
+    (rw (a .pre .0) at (b .match-at .ensures)) (c .before .before .before .before .if3 .taken) (c .before .before .before .if4 .taken) (c .before .if5 .taken) in
     sample-found (a .args .s .now) (a .args .at) (b .match-at .result) (a .pre .1) (c .sample-slice .result) e (c .sample-slice .ensures)
 
 returns-3 : tie.Need-returns-3
@@ -46,21 +47,24 @@ returns-3 c =
     let b = c .before .before .before .before .before in
     let a = b .before .before .before .before in
     sample-none (a .args .s .now) (a .args .at) (b .match-at .result) (a .pre .1)
-    (at-other (a .args .s .now) (a .args .at) (b .match-at .result) (a .pre .1) (takeForm sampleForm (drop (a .args .at) (a .args .s .now))) refl (rw (a .pre .0) at (b .match-at .ensures)) (c .before .before .before .if3 .taken) (c .before .before .if4 .taken) (c .if5 .left))
+    (at-other (a .args .s .now) (a .args .at) (b .match-at .result) (a .pre .1) (takeForm sampleForm (drop (a .args .at) (a .args .s .now))) refl
+    (rw (a .pre .0) at (b .match-at .ensures)) (c .before .before .before .if3 .taken) (c .before .before .if4 .taken) (c .if5 .left))
 
 returns-4 : tie.Need-returns-4
 returns-4 c =
     let b = c .before .before .before in
     let a = b .before .before .before .before in
     sample-none (a .args .s .now) (a .args .at) (b .match-at .result) (a .pre .1)
-    (at-past (a .args .s .now) (a .args .at) (b .match-at .result) (a .pre .1) (takeForm sampleForm (drop (a .args .at) (a .args .s .now))) refl (rw (a .pre .0) at (b .match-at .ensures)) (c .before .if3 .taken) (c .if4 .left))
+    (at-past (a .args .s .now) (a .args .at) (b .match-at .result) (a .pre .1) (takeForm sampleForm (drop (a .args .at) (a .args .s .now))) refl
+    (rw (a .pre .0) at (b .match-at .ensures)) (c .before .if3 .taken) (c .if4 .left))
 
 returns-5 : tie.Need-returns-5
 returns-5 c =
     let b = c .before .before in
     let a = b .before .before .before .before in
     sample-none (a .args .s .now) (a .args .at) (b .match-at .result) (a .pre .1)
-    (at-nothing (a .args .s .now) (a .args .at) (b .match-at .result) (a .pre .1) (takeForm sampleForm (drop (a .args .at) (a .args .s .now))) refl (rw (a .pre .0) at (b .match-at .ensures)) (c .if3 .left))
+    (at-nothing (a .args .s .now) (a .args .at) (b .match-at .result) (a .pre .1) (takeForm sampleForm (drop (a .args .at) (a .args .s .now))) refl
+    (rw (a .pre .0) at (b .match-at .ensures)) (c .if3 .left))
 
 pub sample-at-spec : {M : Type 1} → statement M
 sample-at-spec =

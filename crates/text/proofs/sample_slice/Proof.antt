@@ -50,8 +50,11 @@ loop-again c =
     let l = c .before .before .before .loop in
     let n = c .before .before .before .before .args .t1 in
     let eight : length n ≡ 8 = search needs in
-    let same = ap natAbs (toZ-ofZ (sfits-of {w = w32} {z = getD n (l .i) (pos 0)} (c .before .v .given))) in
-    (stored-more n (l .slice) (l .i) (c .magnitude .result) (omega (arith, l .inv .2)) (omega arith) (l .inv .0) (c .magnitude .ensures ∙ same), omega arith, length-set (l .slice) (l .i) (c .magnitude .result) ∙ l .inv .2)
+    let same = ap natAbs (toZ-ofZ (sfits-of {w = w32} {z = getD n (l .i) (pos 0)} (c .before .v .given))) in (
+      stored-more n (l .slice) (l .i) (c .magnitude .result) (omega (arith, l .inv .2)) (omega arith) (l .inv .0) (c .magnitude .ensures ∙ same),
+      omega arith,
+      length-set (l .slice) (l .i) (c .magnitude .result) ∙ l .inv .2,
+    )
 
 returns : tie.Need-returns Inv-loop μ-loop
 returns c =

@@ -88,7 +88,8 @@ returns c =
       record {
         after = ap (λ (k : ℕ). start .args .at + k) (c .before .before .digits .ensures);
         inside = omega (arith, c .before .before .digits .ensures, room start);
-        bytes = rw here (stores (turn .out) (start .args .at) ((48 + turn .rest) ∷ []) (omega arith)) ∙ rw (one-digit (turn .rest) (c .loop-test .left)) at (turn .inv .4);
+        bytes = rw here (stores (turn .out) (start .args .at) ((48 + turn .rest) ∷ []) (omega arith))
+            ∙ rw (one-digit (turn .rest) (c .loop-test .left)) at (turn .inv .4);
       },
       omega (arith, c .before .before .digits .ensures, room start),
     )

@@ -23,7 +23,8 @@ row : {table : List ℕ} {s : ℕ} → s * 11 + 11 ≤ length table → getD tab
     → take (length (statusWord s)) (drop (s * 11 + 1) table) ≡ statusWord s → WordRow table s
 row {s = s} i c w = record { inside = i; short = word-length s; count = c; word = w }
 
-rows : {table : List ℕ} → WordRow table 0 → WordRow table 1 → WordRow table 2 → WordRow table 3 → WordRow table 4 → WordRow table 5 → (s : ℕ) → s ≤ 5 → WordRow table s
+rows : {table : List ℕ} → WordRow table 0 → WordRow table 1 → WordRow table 2 → WordRow table 3 → WordRow table 4 → WordRow table 5 → (s : ℕ) → s ≤ 5
+    → WordRow table s
 rows r₀ r₁ r₂ r₃ r₄ r₅ zero h = r₀
 rows r₀ r₁ r₂ r₃ r₄ r₅ (suc zero) h = r₁
 rows r₀ r₁ r₂ r₃ r₄ r₅ (suc (suc zero)) h = r₂

@@ -57,16 +57,22 @@ loop-again : tie.Need-loop-again Inv-loop μ-loop
 loop-again c =
     let at = c .before .before .before .before .before .before .loop in
     let args = c .before .before .before .before .before .before .before .args in
-    let long : length (args .old) ≡ 9 = search needs in
-    (omega arith, turn (args .r) (args .s) (args .old) long (at .i) (at .next .n) (at .next .bits) (omega arith) (at .inv .1) (c .before .count .result) (c .before .before .before .before .top .result) (c .before .before .before .counts .result) (c .before .before .before .before .top .ensures) (c .before .before .before .counts .ensures) (c .before .count .ensures) (c .marked .result) (c .marked .ensures))
+    let long : length (args .old) ≡ 9 = search needs in (
+      omega arith,
+      turn (args .r) (args .s) (args .old) long (at .i) (at .next .n) (at .next .bits) (omega arith) (at .inv .1) (c .before .count .result)
+          (c .before .before .before .before .top .result) (c .before .before .before .counts .result) (c .before .before .before .before .top .ensures)
+          (c .before .before .before .counts .ensures) (c .before .count .ensures) (c .marked .result) (c .marked .ensures),
+    )
 
 returns : tie.Need-returns Inv-loop μ-loop
 returns c =
     let at = c .before .loop in
     let args = c .before .before .args in
     let long : length (args .old) ≡ 9 = search needs in
-    let end : at .i ≡ 9 = omega arith in
-    (all-counters (args .r) (args .s) (args .old) long (at .i) (at .next .n) (at .next .bits) end (at .inv .1), all-bits (args .r) (args .s) (args .old) long (at .i) (at .next .n) (at .next .bits) end (at .inv .1))
+    let end : at .i ≡ 9 = omega arith in (
+      all-counters (args .r) (args .s) (args .old) long (at .i) (at .next .n) (at .next .bits) end (at .inv .1),
+      all-bits (args .r) (args .s) (args .old) long (at .i) (at .next .n) (at .next .bits) end (at .inv .1),
+    )
 
 pub count-each-spec : {M : Type 1} → statement M
 count-each-spec =

@@ -30,8 +30,10 @@ returns c =
     let a = start .args in
     let most = c .before .before .top in
     let n = c .before .count in
-    let nine : length (a .t1) ≡ 9 = search needs in
-    (λ r e. ninth-counted r (a .s) (a .t1) nine (ordinary r (a .s) (start .pre) e .unbroken) true (most .result) (n .result) (sym e) (most .ensures) (n .ensures), λ r. ninth-marked r (a .s) (start .pre) (most .result) (n .result) (c .marked .result) (most .ensures) (c .marked .ensures))
+    let nine : length (a .t1) ≡ 9 = search needs in (
+      λ r e. ninth-counted r (a .s) (a .t1) nine (ordinary r (a .s) (start .pre) e .unbroken) true (most .result) (n .result) (sym e) (most .ensures) (n .ensures),
+      λ r. ninth-marked r (a .s) (start .pre) (most .result) (n .result) (c .marked .result) (most .ensures) (c .marked .ensures),
+    )
 
 pub count-ninth-spec : {M : Type 1} → statement M
 count-ninth-spec =

@@ -26,7 +26,11 @@ codes-known-requires c κs = search needs
 returns-2 : tie.Need-returns-2
 unfolding sampleCheck
 returns-2 c =
-    simp (eq-eqb _ _ (c .before .before .before .before .before .if1 .left), ← c .before .codes-known .ensures, not-true (c .before .codes-known .result) (c .if2 .taken))
+    simp (
+      eq-eqb _ _ (c .before .before .before .before .before .if1 .left),
+      ← c .before .codes-known .ensures,
+      not-true (c .before .codes-known .result) (c .if2 .taken),
+    )
 
 shared-slice-read-within : tie.Need-shared-slice-read-within
 shared-slice-read-within c = search needs
@@ -37,7 +41,14 @@ within-requires c κs = search needs
 returns-3 : tie.Need-returns-3
 unfolding sampleCheck
 returns-3 c =
-    simp (eq-eqb _ _ (c .before .before .before .before .before .before .before .before .if1 .left), ← c .before .before .before .before .codes-known .ensures, not-false (c .before .before .before .before .codes-known .result) (c .before .before .before .if2 .left), ← c .before .within .ensures, not-true (c .before .within .result) (c .if3 .taken))
+    simp (
+      eq-eqb _ _ (c .before .before .before .before .before .before .before .before .if1 .left),
+      ← c .before .before .before .before .codes-known .ensures,
+      not-false (c .before .before .before .before .codes-known .result)
+          (c .before .before .before .if2 .left),
+      ← c .before .within .ensures,
+      not-true (c .before .within .result) (c .if3 .taken),
+    )
 
 shared-slice-read-if4 : tie.Need-shared-slice-read-if4
 shared-slice-read-if4 c = search needs
@@ -45,7 +56,17 @@ shared-slice-read-if4 c = search needs
 returns-4 : tie.Need-returns-4
 unfolding sampleCheck
 returns-4 c =
-    simp (eq-eqb _ _ (c .before .before .before .before .before .before .before .before .before .before .if1 .left), ← c .before .before .before .before .before .before .codes-known .ensures, not-false (c .before .before .before .before .before .before .codes-known .result) (c .before .before .before .before .before .if2 .left), ← c .before .before .before .within .ensures, not-false (c .before .before .before .within .result) (c .before .before .if3 .left), lt-leb _ _ (c .if4 .taken))
+    simp (
+      eq-eqb _ _ (c .before .before .before .before .before .before .before .before .before .before .if1 .left),
+      ← c .before .before .before .before .before .before .codes-known .ensures,
+      not-false
+          (c .before .before .before .before .before .before .codes-known .result)
+          (c .before .before .before .before .before .if2 .left),
+      ← c .before .before .before .within .ensures,
+      not-false
+          (c .before .before .before .within .result) (c .before .before .if3 .left),
+      lt-leb _ _ (c .if4 .taken),
+    )
 
 shared-slice-read-powers-known : tie.Need-shared-slice-read-powers-known
 shared-slice-read-powers-known c = search needs
@@ -59,12 +80,34 @@ powers-known-requires c κs = search needs
 returns-5 : tie.Need-returns-5
 unfolding sampleCheck
 returns-5 c =
-    simp (eq-eqb _ _ (c .before .before .before .before .before .before .before .before .before .before .before .before .before .before .if1 .left), ← c .before .before .before .before .before .before .before .before .before .before .codes-known .ensures, not-false (c .before .before .before .before .before .before .before .before .before .before .codes-known .result) (c .before .before .before .before .before .before .before .before .before .if2 .left), ← c .before .before .before .before .before .before .before .within .ensures, not-false (c .before .before .before .before .before .before .before .within .result) (c .before .before .before .before .before .before .if3 .left), le-leb _ _ (c .before .before .before .before .if4 .left), ← c .before .powers-known .ensures, not-true (c .before .powers-known .result) (c .if5 .taken))
+    simp (
+      eq-eqb _ _ (c .before .before .before .before .before .before .before .before .before .before .before .before .before .before .if1 .left),
+      ← c .before .before .before .before .before .before .before .before .before .before .codes-known .ensures,
+      not-false
+          (c .before .before .before .before .before .before .before .before .before .before .codes-known .result)
+          (c .before .before .before .before .before .before .before .before .before .if2 .left),
+      ← c .before .before .before .before .before .before .before .within .ensures,
+      not-false (c .before .before .before .before .before .before .before .within .result) (c .before .before .before .before .before .before .if3 .left),
+      le-leb _ _ (c .before .before .before .before .if4 .left),
+      ← c .before .powers-known .ensures,
+      not-true (c .before .powers-known .result) (c .if5 .taken),
+    )
 
 returns-6 : tie.Need-returns-6
 unfolding sampleCheck
 returns-6 c =
-    simp (eq-eqb _ _ (c .before .before .before .before .before .before .before .before .before .before .before .before .before .before .if1 .left), ← c .before .before .before .before .before .before .before .before .before .before .codes-known .ensures, not-false (c .before .before .before .before .before .before .before .before .before .before .codes-known .result) (c .before .before .before .before .before .before .before .before .before .if2 .left), ← c .before .before .before .before .before .before .before .within .ensures, not-false (c .before .before .before .before .before .before .before .within .result) (c .before .before .before .before .before .before .if3 .left), le-leb _ _ (c .before .before .before .before .if4 .left), ← c .before .powers-known .ensures, not-false (c .before .powers-known .result) (c .if5 .left))
+    simp (
+      eq-eqb _ _ (c .before .before .before .before .before .before .before .before .before .before .before .before .before .before .if1 .left),
+      ← c .before .before .before .before .before .before .before .before .before .before .codes-known .ensures,
+      not-false
+          (c .before .before .before .before .before .before .before .before .before .before .codes-known .result)
+          (c .before .before .before .before .before .before .before .before .before .if2 .left),
+      ← c .before .before .before .before .before .before .before .within .ensures,
+      not-false (c .before .before .before .before .before .before .before .within .result) (c .before .before .before .before .before .before .if3 .left),
+      le-leb _ _ (c .before .before .before .before .if4 .left),
+      ← c .before .powers-known .ensures,
+      not-false (c .before .powers-known .result) (c .if5 .left),
+    )
 
 pub check-spec : {M : Type 1} → statement M
 check-spec =

@@ -56,10 +56,12 @@ larger-requires-2 : tie.Need-larger-requires-2
 larger-requires-2 c κs = search needs
 
 add-sum : tie.Need-add-sum
-add-sum c = let s = c .before .before .before .before .before .before .before .before .before .before .before in omega (arith, sample-right (now (s .args .x)) (s .pre))
+add-sum c = let s = c .before .before .before .before .before .before .before .before .before .before .before in omega
+    (arith, sample-right (now (s .args .x)) (s .pre))
 
 add-sum-2 : tie.Need-add-sum-2
-add-sum-2 c = let s = c .before .before .before .before .before .before .before .before .before .before .before in omega (arith, sample-right (now (s .args .x)) (s .pre))
+add-sum-2 c = let s = c .before .before .before .before .before .before .before .before .before .before .before in omega
+    (arith, sample-right (now (s .args .x)) (s .pre))
 
 shared-slice-read-frequency : tie.Need-shared-slice-read-frequency
 shared-slice-read-frequency c =

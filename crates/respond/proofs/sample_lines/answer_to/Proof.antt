@@ -19,7 +19,8 @@ refused-settings-requires c κs =
 returns-2 : tie.Need-returns-2
 returns-2 c =
     let start = c .before .before .before .before in
-    rw (not-false (start .args .x .found) (c .before .before .if1 .left)) (c .refused-settings .ensures (equippedWith (now (start .args .table))) (start .args .x .slice))
+    rw (not-false (start .args .x .found) (c .before .before .if1 .left))
+    (c .refused-settings .ensures (equippedWith (now (start .args .table))) (start .args .x .slice))
 
 slice-aggregate-step-accepted : tie.Need-slice-aggregate-step-accepted
 slice-aggregate-step-accepted c = search needs

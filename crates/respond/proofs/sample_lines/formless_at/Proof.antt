@@ -17,13 +17,15 @@ no-numbers-requires : tie.Need-no-numbers-requires
 no-numbers-requires c κs = search needs
 
 returns : tie.Need-returns
-returns c = let a = c .before .before .before .before .args in let e = c .before .before .line-end in c .no-numbers .ensures ∙ formless-ended (now (a .s)) (a .at) (e .result) (e .ensures .0) (e .ensures .1) (c .before .if1 .taken)
+returns c = let a = c .before .before .before .before .args in let e = c .before .before .line-end in c .no-numbers .ensures
+    ∙ formless-ended (now (a .s)) (a .at) (e .result) (e .ensures .0) (e .ensures .1) (c .before .if1 .taken)
 
 no-numbers-requires-2 : tie.Need-no-numbers-requires-2
 no-numbers-requires-2 c κs = search needs
 
 returns-2 : tie.Need-returns-2
-returns-2 c = let a = c .before .before .before .before .args in let e = c .before .before .line-end in c .no-numbers2 .ensures ∙ formless-open (now (a .s)) (a .at) (e .result) (e .ensures .0) (e .ensures .1) (c .before .if1 .left)
+returns-2 c = let a = c .before .before .before .before .args in let e = c .before .before .line-end in c .no-numbers2 .ensures
+    ∙ formless-open (now (a .s)) (a .at) (e .result) (e .ensures .0) (e .ensures .1) (c .before .if1 .left)
 
 pub formless-at-spec : {M : Type 1} → statement M
 formless-at-spec =

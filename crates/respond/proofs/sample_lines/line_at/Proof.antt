@@ -18,13 +18,16 @@ sample-at-requires : tie.Need-sample-at-requires
 sample-at-requires c κs = search needs
 
 returns-2 : tie.Need-returns-2
-returns-2 c = let a = c .before .before .before .before .before .before .args in rw (c .before .before .before .if1 .left) (found-line (now (a .s)) (a .at) (c .before .before .sample-at .result) (c .before .before .sample-at .ensures) (c .before .if2 .taken))
+returns-2 c = let a = c .before .before .before .before .before .before .args in rw (c .before .before .before .if1 .left)
+    (found-line (now (a .s)) (a .at) (c .before .before .sample-at .result) (c .before .before .sample-at .ensures) (c .before .if2 .taken))
 
 formless-at-requires-2 : tie.Need-formless-at-requires-2
 formless-at-requires-2 c κs = search needs
 
 returns-3 : tie.Need-returns-3
-returns-3 c = let a = c .before .before .before .before .before .before .args in c .formless-at2 .ensures ∙ rw (c .before .before .before .if1 .left) (missed-line (now (a .s)) (a .at) (c .before .before .sample-at .result) (c .before .before .sample-at .ensures) (c .before .if2 .left))
+returns-3 c = let a = c .before .before .before .before .before .before .args in c .formless-at2 .ensures
+    ∙ rw (c .before .before .before .if1 .left)
+    (missed-line (now (a .s)) (a .at) (c .before .before .sample-at .result) (c .before .before .sample-at .ensures) (c .before .if2 .left))
 
 pub line-at-spec : {M : Type 1} → statement M
 line-at-spec =

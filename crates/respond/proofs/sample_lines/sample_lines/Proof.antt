@@ -63,7 +63,8 @@ put-answer-requires c κs =
     room e s d (a .h) (w .out) (w .board) (w .line) (w .overlong) (w .at) (w .w) before (x .result) (x .ensures) fits
 
 add-line : tie.Need-add-line Inv-loop μ-loop
-add-line c = let f = c .before .before .before .before .before .before .before .before .before .before .before .loop .inv .carried .stands .fit in omega (arith, f .low, f .high)
+add-line c = let f = c .before .before .before .before .before .before .before .before .before .before .before .loop .inv .carried .stands .fit in omega
+    (arith, f .low, f .high)
 
 loop-less : tie.Need-loop-less Inv-loop μ-loop
 loop-less c =
@@ -81,7 +82,10 @@ loop-less c =
     let r = c .before .before .before .before .before .answer-to in
     let put = c .before .before .put-answer .ensures in
     let on = goes-on e s d (a .h) (w .out) (w .board) (w .line) (w .overlong) (w .at) (w .w) before (x .result) (x .ensures) fits (r .result) (r .ensures) _ _ put in
-    rw (c .before .before .before .before .before .before .if1 .taken, c .before .before .before .before .before .before .before .before .before .before .loop-test .taken) (omega (arith, next, on .carried .stands .inside))
+    rw (
+      c .before .before .before .before .before .before .if1 .taken,
+      c .before .before .before .before .before .before .before .before .before .before .loop-test .taken,
+    ) (omega (arith, next, on .carried .stands .inside))
 
 loop-again : tie.Need-loop-again Inv-loop μ-loop
 loop-again c =

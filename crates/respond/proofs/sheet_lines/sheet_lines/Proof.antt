@@ -44,8 +44,10 @@ sheet-line-requires c κs =
     let w = c .before .before .before .before .before .loop in
     let a = c .before .before .before .before .before .before .before .args in
     let s = now (a .s) in
-    let end = c .before .before .line-end in
-    (c .before .before .before .if1 .taken, fit-line (a .q) s (w .state) (w .at) (end .result) (w .inv) (c .before .before .before .if1 .taken) (end .ensures .0) (end .ensures .1) (omega arith))
+    let end = c .before .before .line-end in (
+      c .before .before .before .if1 .taken,
+      fit-line (a .q) s (w .state) (w .at) (end .result) (w .inv) (c .before .before .before .if1 .taken) (end .ensures .0) (end .ensures .1) (omega arith),
+    )
 
 add-at : tie.Need-add-at Inv-loop μ-loop
 add-at c = search needs
@@ -63,7 +65,8 @@ loop-again c =
     let s = now (a .s) in
     let end = c .before .before .before .before .before .before .line-end in
     let r = c .before .before .before .sheet-line in
-    goes-on (a .q) s (w .state) (w .at) (end .result) (w .inv) (c .before .before .before .before .before .before .before .if1 .taken) (end .ensures .0) (end .ensures .1) (omega arith) (r .result .state) (r .result .check) (r .ensures .0) (c .enum-told .given .1)
+    goes-on (a .q) s (w .state) (w .at) (end .result) (w .inv) (c .before .before .before .before .before .before .before .if1 .taken) (end .ensures .0)
+    (end .ensures .1) (omega arith) (r .result .state) (r .result .check) (r .ensures .0) (c .enum-told .given .1)
 
 enum-told-2 : tie.Need-enum-told-2 Inv-loop μ-loop
 enum-told-2 c = search needs
@@ -75,7 +78,9 @@ returns-2 c =
     let s = now (a .s) in
     let end = c .before .before .before .before .before .before .line-end in
     let r = c .before .before .before .sheet-line in
-    refused (a .q) s (w .state) (w .at) (end .result) (w .inv) (c .before .before .before .before .before .before .before .if1 .taken) (end .ensures .0) (end .ensures .1) (omega arith) (r .result .state) (r .result .check) (r .ensures .0) _ _ (c .enum-told2 .given .1) (r .ensures .1 _ _ (c .enum-told2 .given .1))
+    refused (a .q) s (w .state) (w .at) (end .result) (w .inv) (c .before .before .before .before .before .before .before .if1 .taken) (end .ensures .0)
+    (end .ensures .1) (omega arith) (r .result .state) (r .result .check) (r .ensures .0) _ _ (c .enum-told2 .given .1)
+    (r .ensures .1 _ _ (c .enum-told2 .given .1))
 
 returns-3 : tie.Need-returns-3 Inv-loop μ-loop
 returns-3 c =

@@ -16,10 +16,12 @@ same-length : tie.Need-same-length
 same-length c = search needs
 
 returns : tie.Need-returns
-returns c = λ l e. rw (← end-sheet (c .before .before .before .before .before .before .args .q) l (c .before .before .before .before .if1 .taken)) (c .before .before .put-refused .ensures)
+returns c = λ l e. rw (← end-sheet (c .before .before .before .before .before .before .args .q) l (c .before .before .before .before .if1 .taken))
+    (c .before .before .put-refused .ensures)
 
 returns-2 : tie.Need-returns-2
-returns-2 c = λ l e. rw (← end-done (c .before .before .before .args .q) l (c .if2 .taken)) (wrote-none (now (c .before .before .before .args .out)) (c .before .before .before .args .at) (omega arith))
+returns-2 c = λ l e. rw (← end-done (c .before .before .before .args .q) l (c .if2 .taken))
+    (wrote-none (now (c .before .before .before .args .out)) (c .before .before .before .args .at) (omega arith))
 
 either-requires : tie.Need-either-requires
 either-requires c κs = search needs
@@ -31,10 +33,17 @@ same-length-2 : tie.Need-same-length-2
 same-length-2 c = search needs
 
 returns-3 : tie.Need-returns-3
-returns-3 c = λ l e. rw (← end-sample (c .before .before .before .before .before .before .before .before .before .args .q) l (c .before .before .before .before .before .before .before .if1 .left) (omega arith) (rw e (sym (c .before .before .before .before .before .either .ensures) ∙ c .before .before .before .before .if3 .taken))) (c .before .before .put-refused2 .ensures)
+returns-3 c = λ l e. rw
+    (← end-sample (c .before .before .before .before .before .before .before .before .before .args .q) l
+    (c .before .before .before .before .before .before .before .if1 .left) (omega arith)
+    (rw e (sym (c .before .before .before .before .before .either .ensures) ∙ c .before .before .before .before .if3 .taken)))
+    (c .before .before .put-refused2 .ensures)
 
 returns-4 : tie.Need-returns-4
-returns-4 c = λ l e. rw (← end-none (c .before .before .before .before .before .args .q) l (c .before .before .before .if1 .left) (omega arith) (rw e (sym (c .before .either .ensures) ∙ c .if3 .left))) (wrote-none (now (c .before .before .before .before .before .args .out)) (c .before .before .before .before .before .args .at) (omega arith))
+returns-4 c = λ l e. rw
+    (← end-none (c .before .before .before .before .before .args .q) l (c .before .before .before .if1 .left) (omega arith)
+    (rw e (sym (c .before .either .ensures) ∙ c .if3 .left)))
+    (wrote-none (now (c .before .before .before .before .before .args .out)) (c .before .before .before .before .before .args .at) (omega arith))
 
 pub put-end-spec : {M : Type 1} → statement M
 put-end-spec =

@@ -38,8 +38,10 @@ volt-var-requires c κs =
     var-rises (c .before .before .before .before .before .args .s) (c .before .before .before .before .before .pre .sheet)
 
 volt-watt-requires : tie.Need-volt-watt-requires
-volt-watt-requires c κs =
-    (watt-rises (c .before .before .before .before .before .before .args .s) (c .before .before .before .before .before .before .pre .sheet), watt-not-negatives (c .before .before .before .before .before .before .args .s) (c .before .before .before .before .before .before .pre .sheet))
+volt-watt-requires c κs = (
+  watt-rises (c .before .before .before .before .before .before .args .s) (c .before .before .before .before .before .before .pre .sheet),
+  watt-not-negatives (c .before .before .before .before .before .before .args .s) (c .before .before .before .before .before .before .pre .sheet),
+)
 
 smaller-requires : tie.Need-smaller-requires
 smaller-requires c κs = search needs

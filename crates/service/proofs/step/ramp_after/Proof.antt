@@ -23,18 +23,27 @@ returns-2 c =
 
 returns-3 : tie.Need-returns-3
 returns-3 c =
-    full (c .before .before .before .args .continuous) _ _ _ _ (not-false (c .before .before .before .args .on) (c .before .before .if1 .left)) (not-false (c .before .before .before .args .was) (c .before .if2 .left)) (c .if3 .taken)
+    full (c .before .before .before .args .continuous) _ _ _ _ (not-false (c .before .before .before .args .on) (c .before .before .if1 .left))
+    (not-false (c .before .before .before .args .was) (c .before .if2 .left)) (c .if3 .taken)
 
 add-result : tie.Need-add-result
 add-result c = search needs
 
 returns-4 : tie.Need-returns-4
 returns-4 c =
-    rw (not-false (c .before .before .before .before .args .on) (c .before .before .before .if1 .left), not-false (c .before .before .before .before .args .was) (c .before .before .if2 .left), c .if4 .taken) (omega arith)
+    rw (
+      not-false (c .before .before .before .before .args .on) (c .before .before .before .if1 .left),
+      not-false (c .before .before .before .before .args .was) (c .before .before .if2 .left),
+      c .if4 .taken,
+    ) (omega arith)
 
 returns-5 : tie.Need-returns-5
 returns-5 c =
-    rw (not-false (c .before .before .before .before .args .on) (c .before .before .before .if1 .left), not-false (c .before .before .before .before .args .was) (c .before .before .if2 .left), c .if4 .left) (omega arith)
+    rw (
+      not-false (c .before .before .before .before .args .on) (c .before .before .before .if1 .left),
+      not-false (c .before .before .before .before .args .was) (c .before .before .if2 .left),
+      c .if4 .left,
+    ) (omega arith)
 
 pub ramp-after-spec : {M : Type 1} → statement M
 ramp-after-spec = tie.close (tie.spec returns returns-2 returns-3 add-result returns-4 returns-5)

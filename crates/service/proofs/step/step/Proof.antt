@@ -30,7 +30,8 @@ step-accepted-requires c κs =
 returns : tie.Need-returns
 returns c =
     let s = c .before .before .before .before .before in
-    sym (settings-refused ourEquipment (s .args .s) (now (s .args .x)) (s .args .b) _ _ (sym (c .before .before .before .check .ensures) ∙ c .before .cause .given .1))
+    sym (settings-refused ourEquipment (s .args .s) (now (s .args .x)) (s .args .b) _ _
+    (sym (c .before .before .before .check .ensures) ∙ c .before .cause .given .1))
 
 returns-2 : tie.Need-returns-2
 returns-2 c =

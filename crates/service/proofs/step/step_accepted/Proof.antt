@@ -42,7 +42,8 @@ returns c =
 returns-2 : tie.Need-returns-2
 returns-2 c =
     let s = c .before .before .before .before .before .before in
-    let ok : sampleAccepted (now (s .args .x)) ≡ true = ap isAccepted (sym (c .before .before .before .before .check .ensures) ∙ c .before .before .enum-told .given .1) in
+    let ok : sampleAccepted (now (s .args .x)) ≡ true
+    = ap isAccepted (sym (c .before .before .before .before .check .ensures) ∙ c .before .before .enum-told .given .1) in
     let e = equippedWith (now (s .args .table)) in
     c .advance .ensures e (now (s .args .x)) refl (sym (c .before .read .ensures))
     ∙ sym (accepted-step e (s .args .b) (s .args .s) (now (s .args .x)) (s .pre) ok)

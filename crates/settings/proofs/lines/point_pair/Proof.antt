@@ -16,7 +16,13 @@ signed-requires c κs = search needs
 returns : tie.Need-returns
 returns c =
     let power = word w32 {z = c .before .before .before .args .p .power} (omega arith) in
-    rw (word w64 {z = c .before .before .unsigned .result} (c .before .before .unsigned .ok), word w64 (c .signed .ok), c .before .before .unsigned .ensures, c .signed .ensures, power)
+    rw (
+      word w64 {z = c .before .before .unsigned .result} (c .before .before .unsigned .ok),
+      word w64 (c .signed .ok),
+      c .before .before .unsigned .ensures,
+      c .signed .ensures,
+      power,
+    )
 
 pub point-pair-spec : {M : Type 1} → statement M
 point-pair-spec = tie.close (tie.spec unsigned-requires signed-requires returns)

@@ -18,7 +18,8 @@ returns : tie.Need-returns
 returns c =
     let row = c .before .before .before .before .before .before .before .before .before .args .row in
     let p = c .before .before .before .before .before .before .before .before .before .args .p in
-    let first = rw (word w64 {z = row .0} (omega arith), word w64 {z = row .1} (omega arith), word w64 {z = p .first} (omega arith)) at (c .before .before .before .before .before .within .ensures) in
+    let first = rw (word w64 {z = row .0} (omega arith), word w64 {z = row .1} (omega arith), word w64 {z = p .first} (omega arith)) at
+    (c .before .before .before .before .before .within .ensures) in
     let second = rw (word w64 {z = row .2} (omega arith), word w64 {z = row .3} (omega arith), word w64 {z = p .second} (omega arith)) at (c .within2 .ensures) in
     rw (halves, ← first, ← second, c .before .before .before .before .if1 .taken)
 
@@ -26,7 +27,8 @@ returns-2 : tie.Need-returns-2
 returns-2 c =
     let row = c .before .before .before .before .before .args .row in
     let p = c .before .before .before .before .before .args .p in
-    let first = rw (word w64 {z = row .0} (omega arith), word w64 {z = row .1} (omega arith), word w64 {z = p .first} (omega arith)) at (c .before .within .ensures) in
+    let first = rw (word w64 {z = row .0} (omega arith), word w64 {z = row .1} (omega arith), word w64 {z = p .first} (omega arith)) at
+    (c .before .within .ensures) in
     rw (halves, ← first, c .if1 .left)
 
 pub in-row-spec : {M : Type 1} → statement M

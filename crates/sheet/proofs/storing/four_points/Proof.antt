@@ -44,7 +44,27 @@ point-requires-4 c κs = search needs
 
 returns : tie.Need-returns
 returns c =
-    rw (c .before .before .before .before .before .before .before .before .before .point .ensures, c .before .before .before .before .before .before .point2 .ensures, c .before .before .before .point3 .ensures, c .point4 .ensures, word w32 (c .before .before .before .before .before .before .before .before .before .before .before .point-arg .given), word w32 (c .before .before .before .before .before .before .before .before .before .before .point-arg2 .given), word w32 (c .before .before .before .before .before .before .before .before .point-arg3 .given), word w32 (c .before .before .before .before .before .before .before .point-arg4 .given), word w32 (c .before .before .before .before .before .point-arg5 .given), word w32 (c .before .before .before .before .point-arg6 .given), word w32 (c .before .before .point-arg7 .given), word w32 (c .before .point-arg8 .given))
+    rw (
+      c .before .before .before .before .before .before .before .before .before .point .ensures,
+      c .before .before .before .before .before .before .point2 .ensures,
+      c .before .before .before .point3 .ensures,
+      c .point4 .ensures,
+      word w32
+          (c .before .before .before .before .before .before .before .before .before .before .before .point-arg .given),
+      word w32
+          (c .before .before .before .before .before .before .before .before .before .before .point-arg2 .given),
+      word w32
+          (c .before .before .before .before .before .before .before .before .point-arg3 .given),
+      word w32
+          (c .before .before .before .before .before .before .before .point-arg4 .given),
+      word w32
+          (c .before .before .before .before .before .point-arg5 .given),
+      word w32
+          (c .before .before .before .before .point-arg6 .given),
+      word w32 (c .before .before .point-arg7 .given),
+      word w32
+          (c .before .point-arg8 .given),
+    )
 
 pub four-points-spec : {M : Type 1} → statement M
 four-points-spec =

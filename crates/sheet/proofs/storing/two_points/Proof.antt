@@ -26,7 +26,15 @@ point-requires-2 c κs = search needs
 
 returns : tie.Need-returns
 returns c =
-    rw (c .before .before .before .point .ensures, c .point2 .ensures, word w32 (c .before .before .before .before .before .point-arg .given), word w32 (c .before .before .before .before .point-arg2 .given), word w32 (c .before .before .point-arg3 .given), word w32 (c .before .point-arg4 .given))
+    rw (
+      c .before .before .before .point .ensures,
+      c .point2 .ensures,
+      word w32 (c .before .before .before .before .before .point-arg .given),
+      word w32
+          (c .before .before .before .before .point-arg2 .given),
+      word w32 (c .before .before .point-arg3 .given),
+      word w32 (c .before .point-arg4 .given),
+    )
 
 pub two-points-spec : {M : Type 1} → statement M
 two-points-spec =

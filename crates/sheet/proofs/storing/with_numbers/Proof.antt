@@ -31,7 +31,22 @@ element-set-from-next c = search needs
 returns : tie.Need-returns
 unfolding withNumbers
 returns c =
-    rw (lt-ltb (c .before .before .before .before .before .args .i) 8 (omega arith), ne-eqb (c .before .before .before .before .before .args .i) 8 (λ e. omega arith), ne-eqb (c .before .before .before .before .before .args .i) 9 (λ e. omega arith), ne-eqb (c .before .before .before .before .before .args .i) 10 (λ e. omega arith), ne-eqb (c .before .before .before .before .before .args .i) 11 (λ e. omega arith), ne-eqb (c .before .before .before .before .before .args .i) 12 (λ e. omega arith), c .before .before .before .magnitude .ensures, c .before .magnitude2 .ensures, word w32 (c .before .before .before .before .magnitude-arg .given), word w32 (c .before .before .magnitude-arg2 .given))
+    rw (
+      lt-ltb (c .before .before .before .before .before .args .i) 8 (omega arith),
+      ne-eqb (c .before .before .before .before .before .args .i) 8 (λ e. omega arith),
+      ne-eqb (c .before .before .before .before .before .args .i) 9
+          (λ e. omega arith),
+      ne-eqb (c .before .before .before .before .before .args .i) 10 (λ e. omega arith),
+      ne-eqb
+          (c .before .before .before .before .before .args .i) 11 (λ e. omega arith),
+      ne-eqb (c .before .before .before .before .before .args .i) 12
+          (λ e. omega arith),
+      c .before .before .before .magnitude .ensures,
+      c .before .magnitude2 .ensures,
+      word w32
+          (c .before .before .before .before .magnitude-arg .given),
+      word w32 (c .before .before .magnitude-arg2 .given),
+    )
 
 four-points-requires : tie.Need-four-points-requires
 four-points-requires c κs = search needs
@@ -42,17 +57,41 @@ two-points-requires c κs = search needs
 returns-2 : tie.Need-returns-2
 unfolding withNumbers
 returns-2 c =
-    let here : c .before .before .before .before .before .before .args .i ≡ 8 = search needs in rw (here, c .before .before .before .before .magnitude .ensures, c .before .before .magnitude2 .ensures, word w32 (c .before .before .before .before .before .magnitude-arg .given), word w32 (c .before .before .before .magnitude-arg2 .given))
+    let here : c .before .before .before .before .before .before .args .i ≡ 8
+    = search needs in rw (
+      here,
+      c .before .before .before .before .magnitude .ensures,
+      c .before .before .magnitude2 .ensures,
+      word w32 (c .before .before .before .before .before .magnitude-arg .given),
+      word w32
+          (c .before .before .before .magnitude-arg2 .given),
+    )
 
 returns-3 : tie.Need-returns-3
 unfolding withNumbers
 returns-3 c =
-    let here : c .before .before .before .before .before .before .args .i ≡ 9 = search needs in rw (here, c .before .before .before .before .magnitude .ensures, c .before .before .magnitude2 .ensures, word w32 (c .before .before .before .before .before .magnitude-arg .given), word w32 (c .before .before .before .magnitude-arg2 .given))
+    let here : c .before .before .before .before .before .before .args .i ≡ 9
+    = search needs in rw (
+      here,
+      c .before .before .before .before .magnitude .ensures,
+      c .before .before .magnitude2 .ensures,
+      word w32 (c .before .before .before .before .before .magnitude-arg .given),
+      word w32
+          (c .before .before .before .magnitude-arg2 .given),
+    )
 
 returns-4 : tie.Need-returns-4
 unfolding withNumbers
 returns-4 c =
-    let here : c .before .before .before .before .before .before .args .i ≡ 10 = search needs in rw (here, c .before .before .before .before .magnitude .ensures, c .before .before .magnitude2 .ensures, word w32 (c .before .before .before .before .before .magnitude-arg .given), word w32 (c .before .before .before .magnitude-arg2 .given))
+    let here : c .before .before .before .before .before .before .args .i ≡ 10
+    = search needs in rw (
+      here,
+      c .before .before .before .before .magnitude .ensures,
+      c .before .before .magnitude2 .ensures,
+      word w32 (c .before .before .before .before .before .magnitude-arg .given),
+      word w32
+          (c .before .before .before .magnitude-arg2 .given),
+    )
 
 returns-5 : tie.Need-returns-5
 unfolding withNumbers

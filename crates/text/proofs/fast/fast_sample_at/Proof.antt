@@ -39,8 +39,10 @@ closing-requires c κs = search needs
 
 fast-field-requires : tie.Need-fast-field-requires Inv-loop μ-loop
 fast-field-requires c κs =
-    let l = c .before .before .loop in
-    (omega (arith, l .inv .bound, c .before .loop-test .taken, c .before .before .before .before .before .before .pre), rw (c .closing .ensures) (closing-plain (l .k)))
+    let l = c .before .before .loop in (
+      omega (arith, l .inv .bound, c .before .loop-test .taken, c .before .before .before .before .before .before .pre),
+      rw (c .closing .ensures) (closing-plain (l .k)),
+    )
 
 no-sample-requires-2 : tie.Need-no-sample-requires-2 Inv-loop μ-loop
 no-sample-requires-2 c κs = search needs
@@ -90,8 +92,10 @@ loop-again c =
     let p = l .before .before .before .before in
     let e = rw (n .before .before .before .closing .ensures) at (x .ensures (not-false _ (n .if2 .left))) in
     ⊎-elim
-    (λ w. rw (w .3) (next-spaced (p .args .s .now) (p .args .start) (l .loop .slice) (l .loop .k) (l .loop .at) (l .loop .inv) (n .before .before .before .before .loop-test .taken) (x .result) e (w .0 .taken) (p .pre) (w .2 .left)))
-    (λ w. rw (w .1) (next-number (p .args .s .now) (p .args .start) (l .loop .slice) (l .loop .k) (l .loop .at) (l .loop .inv) (n .before .before .before .before .loop-test .taken) (x .result) e (w .0 .left)))
+    (λ w. rw (w .3) (next-spaced (p .args .s .now) (p .args .start) (l .loop .slice) (l .loop .k) (l .loop .at) (l .loop .inv)
+    (n .before .before .before .before .loop-test .taken) (x .result) e (w .0 .taken) (p .pre) (w .2 .left)))
+    (λ w. rw (w .1) (next-number (p .args .s .now) (p .args .start) (l .loop .slice) (l .loop .k) (l .loop .at) (l .loop .inv)
+    (n .before .before .before .before .loop-test .taken) (x .result) e (w .0 .left)))
     (c .if3 .came)
 
 shared-slice-read-if5 : tie.Need-shared-slice-read-if5 Inv-loop μ-loop

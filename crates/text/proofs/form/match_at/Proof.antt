@@ -44,14 +44,17 @@ returns c =
     let l = c .before .before .before .before .before .before .before .before in
     let a = l .before .before .before .args in
     let mark = sym (c .before .before .before .before .before .is-mark .ensures) ∙ c .before .before .before .before .if1 .taken in
-    match-fails _ _ _ (no-number (a .form .now) (a .s .now) (a .start) (l .loop .n) (l .loop .k) (l .loop .at) (l .loop .j) (l .loop .inv .0) (c .before .before .before .before .before .before .before .loop-test .taken) mark (c .before .before .before .marked-at .result) (c .before .before .before .marked-at .ensures) (not-true _ (c .before .if2 .taken))) (c .no-match .ensures)
+    match-fails _ _ _ (no-number (a .form .now) (a .s .now) (a .start) (l .loop .n) (l .loop .k) (l .loop .at) (l .loop .j) (l .loop .inv .0)
+    (c .before .before .before .before .before .before .before .loop-test .taken) mark (c .before .before .before .marked-at .result)
+    (c .before .before .before .marked-at .ensures) (not-true _ (c .before .if2 .taken))) (c .no-match .ensures)
 
 array-set-from-n : tie.Need-array-set-from-n Inv-loop μ-loop
 array-set-from-n c =
     let l = c .before .before .before .before .before .before .before .before in
     let a = l .before .before .before .args in
     let mark = sym (c .before .before .before .before .before .is-mark .ensures) ∙ c .before .before .before .before .if1 .taken in
-    has-room (a .form .now) (a .s .now) (a .start) (l .loop .n) (l .loop .k) (l .loop .at) (l .loop .j) (l .loop .inv .0) (c .before .before .before .before .before .before .before .loop-test .taken) mark
+    has-room (a .form .now) (a .s .now) (a .start) (l .loop .n) (l .loop .k) (l .loop .at) (l .loop .j) (l .loop .inv .0)
+    (c .before .before .before .before .before .before .before .loop-test .taken) mark
 
 mul-n : tie.Need-mul-n Inv-loop μ-loop
 mul-n c = omega (arith, array-set-from-n c)
@@ -67,8 +70,10 @@ loop-again c =
     let l = c .before .before .before .before .before .before .before .before in
     let a = l .before .before .before .args in
     let mark = sym (c .before .before .before .before .before .is-mark .ensures) ∙ c .before .before .before .before .if1 .taken in
-    let x = c .before .before .before .marked-at in
-    (rw (toZ-ofZ (small-fits (x .result .value) (x .ensures .small))) (next-number (a .form .now) (a .s .now) (a .start) (l .loop .n) (l .loop .k) (l .loop .at) (l .loop .j) (l .loop .inv .0) (c .before .before .before .before .before .before .before .loop-test .taken) mark (x .result) (x .ensures) (not-false _ (c .before .if2 .left))), omega arith)
+    let x = c .before .before .before .marked-at in (
+      rw (toZ-ofZ (small-fits (x .result .value) (x .ensures .small))) (next-number (a .form .now) (a .s .now) (a .start) (l .loop .n) (l .loop .k) (l .loop .at) (l .loop .j) (l .loop .inv .0) (c .before .before .before .before .before .before .before .loop-test .taken) mark (x .result) (x .ensures) (not-false _ (c .before .if2 .left))),
+      omega arith,
+    )
 
 no-match-requires-2 : tie.Need-no-match-requires-2 Inv-loop μ-loop
 no-match-requires-2 c κs = search needs
@@ -78,7 +83,8 @@ returns-2 c =
     let l = c .before .before .before .before .before .before in
     let a = l .before .before .before .args in
     let mark = sym (c .before .before .before .is-mark .ensures) ∙ c .before .before .if1 .left in
-    match-fails _ _ _ (no-byte (a .form .now) (a .s .now) (a .start) (l .loop .n) (l .loop .k) (l .loop .at) (l .loop .j) (l .loop .inv .0) (c .before .before .before .before .before .loop-test .taken) mark (c .before .if3 .taken)) (c .no-match2 .ensures)
+    match-fails _ _ _ (no-byte (a .form .now) (a .s .now) (a .start) (l .loop .n) (l .loop .k) (l .loop .at) (l .loop .j) (l .loop .inv .0)
+    (c .before .before .before .before .before .loop-test .taken) mark (c .before .if3 .taken)) (c .no-match2 .ensures)
 
 shared-slice-read-if4 : tie.Need-shared-slice-read-if4 Inv-loop μ-loop
 shared-slice-read-if4 c = search needs
@@ -91,7 +97,9 @@ returns-3 c =
     let l = c .before .before .before .before .before .before .before .before in
     let a = l .before .before .before .args in
     let mark = sym (c .before .before .before .before .before .is-mark .ensures) ∙ c .before .before .before .before .if1 .left in
-    match-fails _ _ _ (other-byte (a .form .now) (a .s .now) (a .start) (l .loop .n) (l .loop .k) (l .loop .at) (l .loop .j) (l .loop .inv .0) (c .before .before .before .before .before .before .before .loop-test .taken) mark (c .before .before .before .if3 .left) (c .before .if4 .taken)) (c .no-match3 .ensures)
+    match-fails _ _ _ (other-byte (a .form .now) (a .s .now) (a .start) (l .loop .n) (l .loop .k) (l .loop .at) (l .loop .j) (l .loop .inv .0)
+    (c .before .before .before .before .before .before .before .loop-test .taken) mark (c .before .before .before .if3 .left) (c .before .if4 .taken))
+    (c .no-match3 .ensures)
 
 add-at : tie.Need-add-at Inv-loop μ-loop
 add-at c = search needs
@@ -103,8 +111,10 @@ loop-again-2 : tie.Need-loop-again-2 Inv-loop μ-loop
 loop-again-2 c =
     let l = c .before .before .before .before .before .before .before in
     let a = l .before .before .before .args in
-    let mark = sym (c .before .before .before .before .is-mark .ensures) ∙ c .before .before .before .if1 .left in
-    (next-byte (a .form .now) (a .s .now) (a .start) (l .loop .n) (l .loop .k) (l .loop .at) (l .loop .j) (l .loop .inv .0) (c .before .before .before .before .before .before .loop-test .taken) mark (c .before .before .if3 .left) (c .if4 .left), omega arith)
+    let mark = sym (c .before .before .before .before .is-mark .ensures) ∙ c .before .before .before .if1 .left in (
+      next-byte (a .form .now) (a .s .now) (a .start) (l .loop .n) (l .loop .k) (l .loop .at) (l .loop .j) (l .loop .inv .0) (c .before .before .before .before .before .before .loop-test .taken) mark (c .before .before .if3 .left) (c .if4 .left),
+      omega arith,
+    )
 
 returns-4 : tie.Need-returns-4 Inv-loop μ-loop
 returns-4 c =

@@ -28,7 +28,8 @@ negative-at-requires c κs = search needs
 returns-2 : tie.Need-returns-2
 returns-2 c =
     let a = c .before .before .before .before .before .before .args in
-    rw (marked-minus (a .mark) (a .s .now) (a .at) (c .before .before .before .before .if1 .left) (c .before .before .before .if2 .taken) (c .before .if3 .taken)) (c .negative-at .ensures)
+    rw (marked-minus (a .mark) (a .s .now) (a .at) (c .before .before .before .before .if1 .left) (c .before .before .before .if2 .taken)
+    (c .before .if3 .taken)) (c .negative-at .ensures)
 
 number-at-requires-2 : tie.Need-number-at-requires-2
 number-at-requires-2 c κs = search needs
@@ -38,7 +39,8 @@ returns-3 c =
     let a = c .before .before .before .before .args in
     let signed = c .before .before .if1 .left in
     let same : takeMarked (a .mark) (drop (a .at) (a .s .now)) ≡ takeNumber (drop (a .at) (a .s .now)) =
-    ⊎-elim (λ w. marked-other (a .mark) (a .s .now) (a .at) signed (w .0 .taken) (w .2 .left)) (λ w. marked-past (a .mark) (a .s .now) (a .at) signed (w .left)) (c .before .if2 .came)
+    ⊎-elim (λ w. marked-other (a .mark) (a .s .now) (a .at) signed (w .0 .taken) (w .2 .left))
+    (λ w. marked-past (a .mark) (a .s .now) (a .at) signed (w .left)) (c .before .if2 .came)
     in
     rw same (c .number-at2 .ensures)
 

@@ -22,7 +22,8 @@ returns : tie.Need-returns
 returns c =
     let d = c .before .before .before .before in
     let a = d .before .before .args in
-    none-at _ _ _ (negated-none (drop (a .at) (a .s .now)) (a .s .now) (d .number-at .result) (d .number-at .ensures) (not-true _ (c .before .if1 .taken))) (c .no-number .ensures)
+    none-at _ _ _ (negated-none (drop (a .at) (a .s .now)) (a .s .now) (d .number-at .result) (d .number-at .ensures)
+    (not-true _ (c .before .if1 .taken))) (c .no-number .ensures)
 
 no-number-requires-2 : tie.Need-no-number-requires-2
 no-number-requires-2 c κs = search needs

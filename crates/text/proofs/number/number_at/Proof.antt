@@ -48,7 +48,8 @@ returns-3 : tie.Need-returns-3
 returns-3 c =
     let d = c .before .before .before .before .before .before in
     let a = d .before .before .args in
-    none-at _ _ _ (leading-zero (a .s .now) (a .at) (d .digits-at .result) (d .digits-at .ensures) (c .before .before .before .if3 .taken) (c .before .if4 .taken)) (c .no-number3 .ensures)
+    none-at _ _ _ (leading-zero (a .s .now) (a .at) (d .digits-at .result) (d .digits-at .ensures) (c .before .before .before .if3 .taken)
+    (c .before .if4 .taken)) (c .no-number3 .ensures)
 
 signed-requires : tie.Need-signed-requires
 signed-requires c κs =
@@ -61,9 +62,16 @@ returns-4 c =
     let d = c .before .before .before .before in
     let a = d .before .before .args in
     let small = value-small (a .s .now) (a .at) (d .digits-at .result) (d .digits-at .ensures) (c .before .before .if2 .left) in
-    let lead : (getD (a .s .now) (a .at) 0 ≡ 48 → d .digits-at .result .next - a .at ≤ 1) = ⊎-elim (λ w z. absurd (w .2 .left z)) (λ w z. w .left) (c .before .if3 .came) in
-    let same : toZ w32 (ofZ w32 (c .signed .result)) ≡ pos (d .digits-at .result .value) = rw (c .signed .ensures) (toZ-ofZ (small-fits (pos (d .digits-at .result .value)) small)) in
-    rw same (record { same = well-taken (a .s .now) (a .at) (d .digits-at .result) (d .digits-at .ensures) (omega arith) (c .before .before .if2 .left) lead; inside = d .digits-at .ensures .inside; small = small })
+    let lead : (getD (a .s .now) (a .at) 0 ≡ 48 → d .digits-at .result .next - a .at ≤ 1)
+    = ⊎-elim (λ w z. absurd (w .2 .left z)) (λ w z. w .left) (c .before .if3 .came) in
+    let same : toZ w32 (ofZ w32 (c .signed .result)) ≡ pos (d .digits-at .result .value)
+    = rw (c .signed .ensures) (toZ-ofZ (small-fits (pos (d .digits-at .result .value)) small)) in
+    rw same (record {
+      same = well-taken (a .s .now) (a .at) (d .digits-at .result) (d .digits-at .ensures) (omega arith)
+          (c .before .before .if2 .left) lead;
+      inside = d .digits-at .ensures .inside;
+      small = small;
+    })
 
 pub number-at-spec : {M : Type 1} → statement M
 number-at-spec =
