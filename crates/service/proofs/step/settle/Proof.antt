@@ -1,4 +1,4 @@
--- `service::step::settle` meets its contract: its parts are those of the record that the rules leave (`Stepping.antt`).
+-- `service::step::settle` meets its contract: each field that it works out is the one that the rules leave.
 -- Assumes nothing.
 use native.Mathlib.Omega.{arith}
 use Rattle.laws.proofs.Accepted.{sheet-rows}
@@ -27,7 +27,8 @@ cast-watts c = search needs
 
 cast-vars : tie.Need-cast-vars
 cast-vars c =
-    let p = c .before .before .before .before .powers-in in rw (kept32 (p .result .vars) (p .ensures .1 .1 .1)) (fits16 (p .result .vars) (p .ensures .1 .1 .1))
+    let p = c .before .before .before .before .powers-in in
+    rw (kept32 (p .result .vars) (p .ensures .1 .1 .1)) (fits16 (p .result .vars) (p .ensures .1 .1 .1))
 
 cast-t16 : tie.Need-cast-t16
 cast-t16 c = search needs
