@@ -14,11 +14,15 @@ expect() {
     fi
 }
 
-# A name stands in one of the files as a whole word: not as a part of another name.
-stands() {
-    local name=$1
+# A name is defined in one of the files: in antt at the head of a line, of code by its keyword, of C before its bracket, of a shell or a text as a word.
+defined() {
+    local name=${1//./\\.}
     shift
-    grep -qsE "(^|[^A-Za-z0-9_'-])${name//./\\.}([^A-Za-z0-9_'-]|\$)" "$@"
+    case $1 in
+    *.antt) grep -qsE "^ *((abbrev|unfoldable) )*(pub )?((record|data) )?$name( :| [({]|\$)" "$@" ;;
+    *.rt | *.rs) grep -qsE "(fn|struct|enum|const|static) $name\\b" "$@" ;;
+    *.c) grep -qsE "^[a-z][a-z0-9_ *]* \\**$name\\(" "$@" ;;
+    esac
 }
 
 # Where the names of a row stand: see the head of docs/TRACE.md.
@@ -26,10 +30,9 @@ found() {
     local column=$1 name=$2
     case $column,$name in
     edit,*/*) [ -f "crates/${name%%/*}/must-fail/${name#*/}.edit" ] ;;
-    *,*::*) stands "${name#*::}" $(find "crates/${name%%::*}/src" -name '*.rt') ;;
-    *,*.md:* | *,*.sh:*) stands "${name#*:}" "${name%%:*}" ;;
-    *,*.rs:* | *,*.c:*) stands "${name#*:}" tests/compare/"${name%%:*}" tests/library/"${name%%:*}" comparison/"${name%%:*}" ;;
-    *,*/*:*) stands "${name#*:}" "crates/${name%%/*}"/{specs,proofs}/"$(basename "${name%%:*}")".antt ;;
+    *,*::*) defined "${name#*::}" $(find "crates/${name%%::*}/src" -name '*.rt') ;;
+    *,*.rs:* | *,*.c:*) defined "${name#*:}" $(find tests/compare tests/library comparison -name "${name%%:*}") ;;
+    *,*/*:*) defined "${name#*:}" $(find "crates/${name%%/*}" -name "$(basename "${name%%:*}").antt") ;;
     *,*/*) [ -f "$name" ] || [ -f "crates/$name" ] ;;
     *) grep -qE "^(abbrev )?pub (record )?$name :" crates/demands/specs/Demands.antt ;;
     esac
