@@ -29,7 +29,7 @@ fromLine (suc i) s = fromLine i (afterLine s)
 abbrev pub numbersBy : List ℕ → List ℕ → Option (List ℤ)
 numbersBy form s = cond (hasFeed s) (numbersOf form (firstLine s)) none
 
--- "each for 1, 2, 3": a line's causes, by its row and by its numbers
+-- spec 3.7: a line's causes, by its row and by its numbers
 abbrev pub causesBy : Row → Option (List ℤ) → List Cause
 causesBy r none = cause 1 true ∷ []
 causesBy r (some ns) = cause 1 false ∷ cause 2 (not (all (map (inRow r) (pairs ns)))) ∷ cause 3 (not (rising (pairs ns))) ∷ []

@@ -16,7 +16,7 @@ use Rattle.formats.proofs.Samples.{sample-reads-back, sample-written-out}
 use Rattle.program.proofs.Sessions.{transcript-law}
 use Rattle.demands.specs.Demands.{OurRefusals, OurSheetRefusals, OurTranscript, OurTripAndReturn, OurTwoHistories, SheetsReadBack, SheetsWrittenOut}
 use Rattle.demands.specs.Demands.{OneSheetReading, DefaultSheetWritten, UnderAcceptedTexts, LinesOfForms, SampleLinesAnswered, OneSampleAnswer}
-use Rattle.demands.specs.Demands.{AcceptedSamplesWritable, SampleLinesReadBack, SampleLinesWrittenOut, EveryCounter, SensingRule, StarredEdges}
+use Rattle.demands.specs.Demands.{AcceptedSamplesWritable, SampleLinesReadBack, SampleLinesWrittenOut, EveryCounter, SensingRule, EdgeValues}
 use Rattle.demands.specs.Demands.{ShamsCaught, ShamImagesCaught, ShamReadingsCaught, AnyTripAndReturn, AnyTwoHistories, OurEquipmentSound}
 use Rattle.demands.specs.Demands.{AlikeEquipmentStepsAlike}
 use Rattle.demands.proofs.Edges.{edges-hold}
@@ -82,8 +82,8 @@ everyCounter = counter-rule
 pub sensingRule : SensingRule
 sensingRule code h = voltage-root code (omega arith)
 
-pub starredEdges : StarredEdges
-starredEdges = edges-hold
+pub edgeValues : EdgeValues
+edgeValues = edges-hold
 
 pub shamsCaught : ShamsCaught
 shamsCaught = record { accepted = quick-accepted; early = early; invented = invented; tripped = tripped; repeated = repeated; kept = kept; refusing = refusing }

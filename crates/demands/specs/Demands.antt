@@ -159,14 +159,14 @@ EveryCounter = (r : Rule) → CounterRule r
 abbrev pub SensingRule : Type 0
 SensingRule = (code : ℕ) → code ≤ lastCode → IsRoot (code * 100000) (voltage code)
 
--- The starred values at the edges, one table: specs/Edges.antt.
-abbrev pub StarredEdges : Type 0
-StarredEdges = EdgesHold
+-- The values of spec 14.1, one table: specs/Edges.antt.
+abbrev pub EdgeValues : Type 0
+EdgeValues = EdgesHold
 
 -- ---- the demands are not empty: shams do not meet them
 
--- The sham boards of spec 13.6 do not meet demand 2 on the sheet of spec 10.11: some list of calls tells each of them from ours. That sheet
--- is accepted, so that demand 2, which speaks of every accepted sheet, is false of each of them.
+-- The sham boards of spec 13.6, and a board that turns away good samples, do not meet demand 2 on the sheet of spec 10.11: some list of calls
+-- tells each of them from ours. That sheet is accepted, so that demand 2, which speaks of every accepted sheet, is false of each of them.
 pub record ShamsCaught : Type 0 where
   pub accepted : settingsAccepted (exampleSheet 0) ≡ true
   pub early : ¬ TripAndReturn ourEquipment tripsEarly (exampleSheet 0)

@@ -1,4 +1,4 @@
-// Spec 7.1 to 7.4: the volt-var and volt-watt curves, and the watts that the nameplate leaves beside vars.
+// Spec 7.1, 7.2, 7.4: the volt-var and volt-watt curves, and the watts that the nameplate leaves beside vars.
 mod curves;
 mod rating;
 

@@ -1,4 +1,4 @@
--- Spec 5, 6, 4.3: the board record, how a lent one is read, and what a step makes of it.
+-- Spec 4.3, 5 to 7: the board record, how a lent one is read, and what a step makes of it.
 -- Assumes nothing.
 use mathlib.Core.Bool.{Bool, cond}
 use mathlib.Core.List.{List, [], _∷_}

@@ -1,4 +1,4 @@
--- Spec 2.1 to 2.4: a mean-square code and its voltage.
+-- Spec 2.1, 2.2, 2.4: a mean-square code and its voltage.
 -- Assumes nothing.
 use mathlib.Core.Bool.{Bool, cond}
 use Prim.Native.Nat.{ℕ, zero, suc, _*_}

@@ -35,7 +35,7 @@ statusOf true Cease full = 5  -- cease to energize
 abbrev pub inService : ℕ → Bool
 inService status = within 1 5 status
 
--- spec 7.6: statuses 1 to 3 give power; tripped, in momentary cessation and where it ceases to energize there is none
+-- spec 7.3, 7.5, 7.6: statuses 1 to 3 give power; tripped, in momentary cessation and where it ceases to energize there is none
 abbrev pub exports : ℕ → Bool
 exports status = within 1 3 status
 
@@ -51,7 +51,7 @@ varsOf e st x status = cond (exports status) (curve (st .var) (mean e x)) (pos 0
 abbrev pub wattCurve : Equipment → Settings → Slice → ℕ
 wattCurve e st x = natAbs (curve (st .watt) (mean e x))
 
--- what limits active power, by name
+-- spec 7.5: what limits active power, by name
 pub data PowerLimit : Type 0 where
   availablePower operatorsLimit rampShare voltWatt nameplateRating : PowerLimit
 
@@ -79,7 +79,7 @@ least [] = 0
 least (n ∷ []) = n
 least (n ∷ m ∷ ns) = min n (least (m ∷ ns))
 
--- Rule 8: in statuses 1 to 3, watts are the least that a limit leaves
+-- spec 7.5, 7.6: in statuses 1 to 3 the least that a limit leaves
 unfoldable pub wattsOf : Equipment → Settings → Slice → ℕ → ℕ → ℕ
 wattsOf e st x status share =
     cond (exports status) (least (map (λ l. l .watts) (powerLimits e st x share (varsOf e st x status)))) 0

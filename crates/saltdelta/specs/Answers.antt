@@ -1,4 +1,4 @@
--- Spec 3.9, 5.2, 9, 11.3: what the calls of the C boundary answer and leave in lent memory, from the
+-- Spec 5.6, 11.3, 11.4: what the calls of the C boundary answer and leave in lent memory, from the
 -- rules' step and the rules' reading of a sheet.
 -- Assumes nothing.
 use mathlib.Core.List.{List}
@@ -23,7 +23,7 @@ use Rattle.saltdelta.specs.declared.SheetAnswer.{SheetAnswer}
 unfoldable pub recordAfter : Board → Settings → Slice → Board
 recordAfter b s x = stepOf ourEquipment b s x .board
 
--- spec 11.3: 0 where the step is not refused
+-- spec 5.6: 0 where the step is not refused
 unfoldable pub stepNumber : Board → Settings → Slice → ℕ
 stepNumber b s x = answerNumber (stepOf ourEquipment b s x .answer)
 
@@ -51,7 +51,7 @@ sheetAnswer s =
       length = L.length (handedBack s);
     }
 
--- accepted settings are stored (spec 11.4)
+-- accepted settings are stored (spec 5.6)
 abbrev pub settingsOr : Settings → SettingsCheck → Settings → Settings
 settingsOr before SettingsCheck.Accepted read = read
 settingsOr before (SettingsCheck.Refused cause line) read = before

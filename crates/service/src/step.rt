@@ -77,7 +77,7 @@ fn is_continuous(region: Region) -> bool
     }
 }
 
-// Spec 6.11: the ramp count after the step, from the count as lent (spec 5.4).
+// Spec 6.11, 6.12: the ramp count after the step, from the count as lent (spec 5.4).
 fn ramp_after(was: bool, on: bool, continuous: bool, length: u32, old: u32) -> u32
     ensures { λ r. ⌜ r ≡ ramped was on continuous length (cond was (min length old) 0) ⌝ }
 {

@@ -1,4 +1,4 @@
-// Spec 3.1 to 3.4, 10.2: lines, their forms, and the numbers in them.
+// Spec 3.1, 3.2, 3.4, 10.2: lines, their forms, and the numbers in them.
 ghost use mathlib.Core.Path.{_≡_};
 ghost use mathlib.Core.List.{map};
 ghost use Prim.Native.Nat.{_+_, _≤_, _<_};
