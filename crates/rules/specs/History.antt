@@ -66,7 +66,7 @@ unfoldable pub historyVars : Equipment → Settings → History → ℤ
 historyVars e st [] = pos 0
 historyVars e st (x ∷ h) = varsOf e st x (historyStatus e st (x ∷ h))
 
--- spec 12.4
+-- spec 12.4: the report of a history
 unfoldable pub historyReport : Equipment → Settings → History → Items
 historyReport e st h =
     record {

@@ -33,7 +33,7 @@ abbrev pub twosComplement : ℤ → ℕ
 twosComplement (pos n) = n
 twosComplement (negsuc n) = 65535 - n
 
--- status, nine counters, ramp count, watts, vars in two's complement; the record as it is, not as it is read
+-- spec 9.1, 9.2: status, nine counters, ramp count, watts, vars in two's complement; the record as it is, not as it is read
 unfoldable pub imageFields : Board → List Field
 imageFields b =
     field 1 (b .status)
@@ -46,7 +46,7 @@ image b = fieldBytes (imageFields b)
 abbrev pub imageLength : ℕ
 imageLength = 45
 
--- spec 9.4
+-- spec 9.4: a short buffer is refused
 unfoldable pub saveCheck : List ℕ → Saved
 saveCheck buffer = cond (leb imageLength (length buffer)) Saved.Written (Saved.Refused Buffer)
 

@@ -21,7 +21,7 @@ use Rattle.rules.specs.declared.SampleCheck.{SampleCheck}
 use Rattle.rules.specs.declared.Answer.{Answer}
 use Rattle.rules.specs.declared.Stepped.{Stepped}
 
--- spec 5.3
+-- spec 5.3: a fresh board
 unfoldable pub fresh : Board
 fresh = record { status = 0; counters = replicate 9 0; ramp = 0; watts = 0; vars = pos 0 }
 
@@ -72,7 +72,7 @@ ruled e st x b =
 unfoldable pub next : Equipment → Settings → Slice → Board → Board
 next e st x b = ruled e st x (readAs e st b)
 
--- what a record shows after a step
+-- spec 8.1: what a record shows after a step
 unfoldable pub shown : Equipment → Settings → Board → Items
 shown e st b =
     record {

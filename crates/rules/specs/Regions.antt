@@ -11,7 +11,7 @@ use Rattle.rules.specs.Samples.{Slice, Equipment, frequency, lowest, hig
 use Rattle.rules.specs.declared.Region.{Region}
 use Rattle.rules.specs.declared.Region.the-variants.{Continuous, Mandatory, Momentary, Cease}
 
--- spec 6.7: Category III
+-- spec 6.7: of a voltage (Category III)
 unfoldable pub voltageRegion : ℕ → Region
 voltageRegion v =
     cond (ltb 12000 v) Cease
@@ -20,7 +20,7 @@ voltageRegion v =
     (cond (leb 5000 v) Mandatory
     Momentary)))
 
--- spec 6.8
+-- spec 6.8: of a frequency
 unfoldable pub frequencyRegion : ℕ → Region
 frequencyRegion f = cond (within 58800 61200 f) Continuous Mandatory
 
@@ -48,6 +48,6 @@ isContinuous Cease = false
 abbrev pub ourEquipment : Equipment
 ourEquipment = record { sensing = voltage; region = voltageRegion }
 
--- a board with a lent sensing table, the voltage of each code, and the Category III voltage regions
+-- spec 2.3: a board with a lent sensing table, the voltage of each code, and the Category III voltage regions
 abbrev pub equippedWith : List ℕ → Equipment
 equippedWith table = record { sensing = λ code. getD table code 0; region = voltageRegion }

@@ -70,7 +70,7 @@ pub record Equipment : Type 0 where
 abbrev pub phase : Equipment → Slice → ℕ → ℕ
 phase e x i = e .sensing (codeOf x i)
 
--- spec 2.5
+-- spec 2.5: the lowest and the highest voltage
 abbrev pub lowest : Equipment → Slice → ℕ
 lowest e x = min (phase e x 0) (min (phase e x 1) (phase e x 2))
 

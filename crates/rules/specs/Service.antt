@@ -39,7 +39,7 @@ inService status = within 1 5 status
 abbrev pub exports : ℕ → Bool
 exports status = within 1 3 status
 
--- spec 6.14
+-- spec 6.14: the share that the ramp lets through
 abbrev pub shareOf : Settings → ℕ → ℕ
 shareOf st ramp = 10000 * ramp / st .ramp
 
@@ -63,7 +63,7 @@ pub record Limited : Type 0 where
 abbrev pub leaves : PowerLimit → ℕ → Limited
 leaves limit watts = record { limit = limit; watts = watts }
 
--- the limits of a sample in their standing order, from the share and the vars
+-- spec 7.5: the limits of a sample in their standing order, from the share and the vars
 abbrev pub powerLimits : Equipment → Settings → Slice → ℕ → ℤ → List Limited
 powerLimits e st x share vars =
     leaves availablePower (available x)

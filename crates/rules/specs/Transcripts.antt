@@ -25,7 +25,7 @@ use Rattle.rules.specs.declared.Stepped.{Stepped}
 
 -- ---- the lines that are written
 
--- the status words, by number
+-- spec 6.13: the status words, by number
 abbrev pub statusWords : List String
 statusWords = "tripped" ∷ "entering" ∷ "continuous" ∷ "mandatory" ∷ "momentary" ∷ "cease" ∷ []
 
@@ -46,13 +46,13 @@ unfoldable pub spacedNumbers : List ℤ → List ℕ
 spacedNumbers [] = []
 spacedNumbers (z ∷ zs) = spaced z ++ spacedNumbers zs
 
--- spec 10.4
+-- spec 10.4: a report line
 unfoldable pub reportLine : Report → List ℕ
 reportLine r =
     bytes "(report " ++ (bytes (getD statusWords (r .status) "") ++ (bytes " " ++ (bitDigits 9 (r .bits)
     ++ (spacedNumbers (reportNumbers r) ++ bytes ")\n"))))
 
--- spec 10.5
+-- spec 10.5: a refusal line
 unfoldable pub refusedLine : Refusal → ℕ → List ℕ
 refusedLine cause line = bytes "(refused" ++ (spacedNumbers (pos (refusalNumber cause) ∷ pos line ∷ []) ++ bytes ")\n")
 
@@ -60,7 +60,7 @@ abbrev pub answerLine : ℕ → Answer → List ℕ
 answerLine line (Answer.Reported r) = reportLine r
 answerLine line (Answer.Refused cause) = refusedLine cause line
 
--- room for one line that is written, whichever
+-- spec 10.14: room for one line that is written, whichever
 abbrev pub lineRoom : ℕ
 lineRoom = 128
 
@@ -102,7 +102,7 @@ answersFrom e st b n (l ∷ ls) = answerLine n (lineStep e st b l .answer) ++ an
 
 -- ---- the whole input
 
--- spec 10.9
+-- spec 10.9: where the input ends at the latest
 abbrev pub inputEnd : ℕ
 inputEnd = 1000000000000
 
