@@ -1,17 +1,10 @@
--- Spec 4.1, 6.1 to 6.9: what the rules read from an accepted sample, and the nine rules on such a reading.
+-- Spec 4.1: what the rules read from an accepted sample.
 -- Assumes nothing.
 use mathlib.Core.Path.{_≡_}
-use mathlib.Core.Bool.{Bool, true, false, cond}
-use mathlib.Core.List.{List, [], _∷_}
-use Prim.Native.Nat.{ℕ, zero, suc, _+_, _≤_, _<_, max}
-use lib.Dec.{ltb}
-use Rattle.rules.specs.Tests.{all, within}
-use Rattle.rules.specs.Settings.{settingsAccepted, limitAt}
+use mathlib.Core.Bool.{true}
+use Prim.Native.Nat.{_+_, _≤_}
+use Rattle.rules.specs.Settings.{settingsAccepted}
 use Rattle.rules.specs.Samples.{Slice, Equipment, frequency, permitted, available, operatorLimit, phase, lowest, highest}
-use Rattle.rules.specs.Counters.{Rule}
-use Rattle.rules.specs.Regions.{voltageRegion, frequencyRegion, worse}
-use Rattle.rules.specs.declared.Region.{Region}
-use Rattle.rules.specs.declared.Region.the-variants.{Continuous}
 use Rattle.rules.specs.declared.Settings.{Settings}
 use Rattle.readings.specs.declared.reading.Reading.{Reading}
 
@@ -27,51 +20,6 @@ readingOf e x =
       available = available x;
       limit = operatorLimit x;
     }
-
--- the enter-service criteria on a reading
-unfoldable pub enters : Reading → Settings → Bool
-enters r s =
-    all (r .permit
-    ∷ within (s .volts .low) (s .volts .high) (r .low)
-    ∷ within (s .volts .low) (s .volts .high) (r .high)
-    ∷ within (s .hertz .low) (s .hertz .high) (r .frequency)
-    ∷ [])
-
--- spec 6.9 on a reading, by the Category III voltage regions
-abbrev pub regionAt : Reading → Region
-regionAt r = worse (voltageRegion (r .low)) (worse (voltageRegion (r .high)) (frequencyRegion (r .frequency)))
-
--- whether limit i is broken, by its place: uv1 uv2, ov1 ov2, uf1 uf2, of1 of2
-abbrev pub brokenAt : Reading → ℕ → ℕ → Bool
-brokenAt r i level =
-    cond (ltb i 2) (ltb (r .low) level)
-    (cond (ltb i 4) (ltb level (r .high)) (cond (ltb i 6) (ltb (r .frequency) level) (ltb level (r .frequency))))
-
--- whether counter i counts the reading: its limit is broken, or, for the ninth, the enter-service criteria hold
-abbrev pub hitAt : Reading → Settings → ℕ → Bool
-hitAt r s i = cond (ltb i 8) (brokenAt r i (limitAt s i .level)) (enters r s)
-
--- the top of counter i: its clearing time, or, for the ninth, the wait, of which 0 counts as 1
-abbrev pub topAt : Settings → ℕ → ℕ
-topAt s i = cond (ltb i 8) (limitAt s i .clearing) (max 1 (s .wait))
-
--- an ordinary reading: no limit is broken, and operation is continuous
-pub record Ordinary (r : Reading) (s : Settings) : Type 0 where
-  pub unbroken : (i : ℕ) → i < 8 → hitAt r s i ≡ false
-  pub continuous : regionAt r ≡ Continuous
-
--- rule i on a reading: it counts whatever sample has the reading
-abbrev pub ruleAt : Reading → Settings → ℕ → Rule
-ruleAt r s i = record { counts = λ x. hitAt r s i; top = topAt s i }
-
--- k rules from rule i on
-unfoldable pub rulesFrom : Reading → Settings → ℕ → ℕ → List Rule
-rulesFrom r s i zero = []
-rulesFrom r s i (suc k) = ruleAt r s i ∷ rulesFrom r s (suc i) k
-
--- all nine
-abbrev pub rulesAt : Reading → Settings → List Rule
-rulesAt r s = rulesFrom r s 0 9
 
 -- what the powers ask of the settings and of a reading
 pub record Exportable (r : Reading) (s : Settings) : Type 0 where

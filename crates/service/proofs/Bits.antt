@@ -9,7 +9,7 @@ use lib.Dec.{ltb, eqb}
 use borrow.Author.Tests.{lt-ltb, le-ltb, eq-eqb, ne-eqb}
 use Rattle.rules.specs.Tests.{any}
 use Rattle.rules.specs.Reports.{packedAfter}
-use Rattle.readings.proofs.Counting.{packed-last}
+use Rattle.ridethrough.proofs.Counting.{packed-last}
 
 packed-some : (n : ℕ) (bs : List Bool) → 1 ≤ n → 1 ≤ packedAfter n bs
 packed-some n [] h = h

@@ -31,8 +31,9 @@ use Rattle.laws.proofs.Curves.{fits16}
 use Rattle.laws.proofs.Least.{inTurn, in-turn}
 use Rattle.laws.proofs.SameRules.{SameRules, counted-same, full-same}
 use Rattle.readings.specs.declared.reading.Reading.{Reading}
-use Rattle.readings.specs.Readings.{readingOf, enters, regionAt, rulesFrom, rulesAt}
-use Rattle.readings.proofs.Counting.{rules-length}
+use Rattle.readings.specs.Readings.{readingOf}
+use Rattle.ridethrough.specs.Rules.{enters, regionAt, rulesFrom, rulesAt}
+use Rattle.ridethrough.proofs.Counting.{rules-length}
 use Rattle.service.specs.Steps.{Bits}
 
 -- ---- a power fits the record's fields

@@ -2,7 +2,7 @@
 -- Assumes nothing.
 use mathlib.Core.Path.{_≡_, sym, ap, _∙_}
 use lib.ListN.{length}
-use Rattle.readings.proofs.Ordinary.{ordinary}
+use Rattle.ridethrough.proofs.Ordinary.{ordinary}
 use Rattle.service.specs.Steps.{reported}
 use Rattle.service.proofs.Stepping.{ramp-top, Found, Promised, region-found, bits-found, advance-is}
 use borrow.Author.Needs.{needs}
