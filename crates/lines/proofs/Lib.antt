@@ -1,3 +1,2 @@
-pub mod Decimals
 pub mod Whole
 pub mod Lengths

@@ -15,7 +15,8 @@ use Rattle.rules.specs.declared.Report.{Report}
 use Rattle.rules.specs.declared.Refusal.{Refusal}
 use Rattle.buffers.specs.Written.{Wrote}
 use Rattle.buffers.proofs.Writing.{and-then}
-use Rattle.lines.specs.Pieces.{statusWord, reportHead, reportFront, isSteady}
+use Rattle.pieces.specs.Pieces.{statusWord}
+use Rattle.lines.specs.Fronts.{reportHead, reportFront, isSteady}
 
 pub report-whole : (r : Report) → reportLine r ≡ reportHead r ++ (spacedNumbers (reportNumbers r) ++ bytes ")\n")
 unfolding reportLine reportHead statusWord

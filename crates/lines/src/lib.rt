@@ -4,22 +4,17 @@ ghost use Prim.Native.Nat.{_+_, _≤_};
 ghost use lib.ListN.{length};
 ghost use Rattle.rules.specs.Transcripts.{lineRoom, reportLine, refusedLine};
 ghost use Rattle.buffers.specs.Written.{Wrote};
-ghost use Rattle.lines.specs.Pieces.{headRoom, frontRoom, reportHead, reportFront, isSteady};
-
-mod copies;
-mod numbers;
-mod words;
-
-use copies::put;
-use copies::put_byte;
-use numbers::put_bits;
-use numbers::put_long_number;
-use numbers::put_number;
-use numbers::put_signed_number;
+ghost use Rattle.lines.specs.Fronts.{headRoom, frontRoom, reportHead, reportFront, isSteady};
+use pieces::copies::put;
+use pieces::copies::put_byte;
+use pieces::numbers::put_bits;
+use pieces::numbers::put_long_number;
+use pieces::numbers::put_number;
+use pieces::numbers::put_signed_number;
+use pieces::words::put_word;
 use rules::Refusal;
 use rules::Report;
 use rules::refusal_number;
-use words::put_word;
 
 // "(report ", the status word, a space and the nine bits.
 fn put_head(out: &mut [u8], at: usize, report: Report) -> usize

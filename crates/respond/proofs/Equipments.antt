@@ -16,8 +16,8 @@ use Rattle.laws.proofs.Alike.{step-alike}
 use Rattle.program.specs.Saying.{Said, lineNumbers, said}
 use Rattle.program.specs.Responses.{handled, stops, andSaid}
 use Rattle.program.specs.declared.State.{State}
-use Rattle.respond.specs.Carrying.{Carried}
-use Rattle.respond.specs.declared.state.Handled.{Handled}
+use Rattle.handling.specs.Carrying.{Carried}
+use Rattle.handling.specs.declared.state.Handled.{Handled}
 
 module _ (e f : Equipment) (a : Alike e f) where
   numbers-alike : (st : Settings) (b : Board) (o : Option (List ℤ)) → onSampleNumbers e st b o ≡ onSampleNumbers f st b o

@@ -17,9 +17,10 @@ use Rattle.program.specs.Saying.{isSome, endText}
 use Rattle.program.specs.Responses.{longest, lineRoom, atTail, handled}
 use Rattle.program.specs.declared.State.{State}
 use Rattle.program.proofs.Handling.{handled-unfed, handled-stops}
-use Rattle.respond.specs.Carrying.{Stuck, Closed}
-use Rattle.respond.specs.declared.state.Handled.{Handled}
-use Rattle.respond.proofs.Buffers.{wrote-none}
+use Rattle.handling.specs.Carrying.{Stuck}
+use Rattle.respond.specs.Answering.{Closed}
+use Rattle.handling.specs.declared.state.Handled.{Handled}
+use Rattle.handling.proofs.Buffers.{wrote-none}
 
 -- ---- the text at the input's end
 

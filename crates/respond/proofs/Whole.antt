@@ -22,11 +22,12 @@ use Rattle.program.specs.declared.State.{State}
 use Rattle.program.proofs.Fitting.{sensible-fit, fit-read}
 use Rattle.program.proofs.Handling.{handled-stops}
 use Rattle.program.proofs.Responding.{nothing-taken}
-use Rattle.respond.specs.Carrying.{checkText, SheetSaid, begun, Carried, Stuck, Closed, Responds}
-use Rattle.respond.specs.declared.state.Handled.{Handled}
-use Rattle.respond.specs.declared.sheet_lines.SheetLines.{SheetLines}
+use Rattle.handling.specs.Carrying.{checkText, SheetSaid, begun, Carried, Stuck}
+use Rattle.respond.specs.Answering.{Closed, Responds}
+use Rattle.handling.specs.declared.state.Handled.{Handled}
+use Rattle.handling.specs.declared.sheet_lines.SheetLines.{SheetLines}
 use Rattle.respond.specs.declared.Responded.{Responded}
-use Rattle.respond.proofs.Buffers.{wrote-none, wrote-length}
+use Rattle.handling.proofs.Buffers.{wrote-none, wrote-length}
 
 -- ---- the sheet's lines, written
 

@@ -7,26 +7,25 @@ ghost use Rattle.rules.specs.Samples.{Equipment};
 ghost use Rattle.rules.specs.Regions.{ourEquipment};
 ghost use Rattle.rules.specs.Text.{hasFeed};
 ghost use Rattle.program.specs.States.{Fit, readsSheet};
-ghost use Rattle.respond.specs.Carrying.{begun, Carried, Stuck, Closed, Responds};
+ghost use Rattle.handling.specs.Carrying.{begun, Carried, Stuck};
+ghost use Rattle.respond.specs.Answering.{Closed, Responds};
 ghost use Rattle.program.specs.Responses.{lineRoom, longest};
 
-mod sample_lines;
-mod sheet_lines;
-mod state;
+mod begin;
 mod tail;
 
+pub use begin::start;
+use handling::sample_lines::sample_lines;
+use handling::sheet_lines::sheet_lines;
+use handling::state::Handled;
+use handling::state::either;
+use handling::state::sensible;
+use handling::state::stop;
 use lines::put_refused;
 use program::State;
 use rules::LINE_ROOM;
 use rules::SettingsCheck;
-use sample_lines::sample_lines;
 use sensing::table;
-use sheet_lines::sheet_lines;
-use state::Handled;
-use state::either;
-use state::sensible;
-pub use state::start;
-use state::stop;
 use tail::tail;
 
 // What `respond` answers: the next state, how many bytes of the block it took, how many it wrote, and whether all is done.

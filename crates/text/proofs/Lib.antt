@@ -1,12 +1,9 @@
 pub mod Lines
 pub mod Runs
-pub mod Slices
 pub mod Taking
 pub mod Matching
 pub mod Cuts
 pub mod Made
 pub mod Whole
 pub mod Ended
-pub mod Samples
 pub mod Signs
-pub mod FastSamples

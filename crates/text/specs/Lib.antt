@@ -1,4 +1,3 @@
 pub mod Places
 pub mod Forms
 pub mod Lines
-pub mod Fast

@@ -1,30 +1,13 @@
--- Spec 3.2, 10.2: the numbers of a whole line, and of a sample line that stands at a place of a text.
+-- Spec 3.2: the numbers of a whole line.
 -- Assumes nothing.
-use mathlib.Core.Bool.{true, false, cond}
-use mathlib.Core.List.{List, map}
+use mathlib.Core.Bool.{true, false}
+use mathlib.Core.List.{List}
 use mathlib.Core.Option.{Option, none, some}
-use Prim.Native.Nat.{ℕ, _+_}
-use lib.IntN.{ℤ, pos, natAbs}
-use lib.ListN.{length, drop, replicate}
-use Rattle.rules.specs.Text.{firstLine, hasFeed}
-use Rattle.rules.specs.Forms.{sampleForm, numbersOf}
+use lib.IntN.{ℤ, pos}
+use lib.ListN.{replicate}
 use Rattle.text.specs.Places.{padded}
 use Rattle.text.specs.declared.Numbers.{Numbers}
-use Rattle.text.specs.declared.SampleAt.{SampleAt}
 
 abbrev pub numbersRead : Option (List ℤ) → Numbers
 numbersRead none = record { found = false; n = replicate 8 (pos 0) }
 numbersRead (some ns) = record { found = true; n = padded ns }
-
--- the first line's numbers by the sample form, where the line is ended
-abbrev pub endedSample : List ℕ → Option (List ℤ)
-endedSample s = cond (hasFeed s) (numbersOf sampleForm (firstLine s)) none
-
--- what is read, and the place after the line feed; the place it began at where nothing is
-abbrev pub readThen : Option (List ℤ) → ℕ → ℕ → SampleAt
-readThen none at next = record { found = false; next = at; slice = replicate 7 0 }
-readThen (some ns) at next = record { found = true; next = next; slice = map natAbs ns }
-
--- the sample line at a place of a text
-unfoldable pub sampleAt : List ℕ → ℕ → SampleAt
-sampleAt s at = readThen (endedSample (drop at s)) at (at + length (firstLine (drop at s)) + 1)

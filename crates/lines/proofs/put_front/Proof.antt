@@ -3,7 +3,7 @@
 use mathlib.Core.Path.{sym, _∙_}
 use native.Mathlib.Omega.{arith}
 use Rattle.buffers.proofs.Writing.{and-then}
-use Rattle.lines.specs.Pieces.{reportFront}
+use Rattle.lines.specs.Fronts.{reportFront}
 use Rattle.lines.proofs.Whole.{steady-front}
 use borrow.Author.Needs.{needs}
 use Rattle.lines.proofs.put_front.Statement.{statement}

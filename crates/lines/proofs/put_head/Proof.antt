@@ -3,7 +3,7 @@
 use borrow.Author.Needs.{needs}
 use native.Mathlib.Omega.{arith}
 use Rattle.buffers.proofs.Writing.{and-then}
-use Rattle.lines.specs.Pieces.{reportHead}
+use Rattle.lines.specs.Fronts.{reportHead}
 use Rattle.lines.proofs.put_head.Statement.{statement}
 use Rattle.lines.proofs.put_head.Tie as tie
 

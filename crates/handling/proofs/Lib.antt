@@ -1,0 +1,4 @@
+pub mod States
+pub mod Buffers
+pub mod SheetLines
+pub mod SampleLines

@@ -1,0 +1,2 @@
+pub mod SampleLines
+pub mod Carrying

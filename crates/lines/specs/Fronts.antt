@@ -1,0 +1,32 @@
+-- The begin of a report line (spec 10.4), as its pieces are written one after the other.
+-- Assumes nothing.
+use mathlib.Core.Bool.{Bool, _&&_}
+use mathlib.Core.List.{List, _++_}
+use Prim.Native.Nat.{ℕ, _+_}
+use lib.Dec.{eqb}
+use lib.IntN.{pos}
+use Rattle.rules.specs.Text.{bytes}
+use Rattle.rules.specs.Transcripts.{bitDigits, spaced}
+use Rattle.rules.specs.declared.Report.{Report}
+use Rattle.pieces.specs.Pieces.{statusWord, numberRoom}
+
+-- a line's begin, as far as the bits
+unfoldable pub reportHead : Report → List ℕ
+reportHead r = bytes "(report " ++ (statusWord (r .status) ++ (bytes " " ++ bitDigits 9 (r .bits)))
+
+-- a line's begin, as far as the share
+unfoldable pub reportFront : Report → List ℕ
+reportFront r = reportHead r ++ spaced (pos (r .share))
+
+-- status continuous, of the nine bits ready alone, full share
+abbrev pub isSteady : Report → Bool
+isSteady r = eqb (r .status) 2 && (eqb (r .bits) 1 && eqb (r .share) 10000)
+
+-- ---- room: no front is longer
+
+-- the head: the begin, the longest status word, a space and nine bits
+abbrev pub headRoom : ℕ
+headRoom = 28
+
+abbrev pub frontRoom : ℕ
+frontRoom = headRoom + numberRoom
