@@ -1,4 +1,8 @@
-// Executed cases: spec 14.2, 11.1. Each line names a case and what the library gave.
+// Executed cases: spec 14.2, 11.1, and 10.9 in `ends`. Each line names a case and what the library gave.
+mod ends;
+mod sheets;
+
+use ends::ends;
 use libc::STDOUT_FILENO;
 use rules::Answer;
 use rules::Board;
@@ -9,6 +13,7 @@ use rules::Sensed;
 use rules::Settings;
 use rules::Span;
 use rules::refusal_number;
+use sheets::sheets;
 
 fn wide16(x: u16) -> u64 {
     x as u64
@@ -198,4 +203,6 @@ fn main() {
     show(b"fifteen steps above ov2: ", status_above_ov2(15));
     show(b"sixteen steps above ov2: ", status_above_ov2(16));
     images();
+    ends();
+    sheets();
 }

@@ -1,6 +1,7 @@
 pub mod Calls
 pub mod Held
 pub mod Sound
+pub mod Powers
 pub mod Alike
 pub mod FirstCause
 pub mod SheetCauses

@@ -3,12 +3,18 @@
 use native.Mathlib.Omega.{arith}
 use Rattle.rules.specs.Regions.{ourEquipment}
 use Rattle.rules.specs.Sheets.{readSheet}
+use Rattle.rules.specs.Curves.{curve}
 use Rattle.roots.proofs.Voltages.{voltage-root}
 use Rattle.laws.proofs.FirstCause.{refuses-rightly}
 use Rattle.laws.proofs.SheetCauses.{sheets-refused-rightly}
 use Rattle.laws.proofs.Demand2.{demand2, counter-rule}
 use Rattle.laws.proofs.Demand3.{demand3}
 use Rattle.laws.proofs.Alike.{step-alike}
+use Rattle.laws.proofs.Curves.{var-rises, watt-rises}
+use Rattle.laws.proofs.OneCurve.{one-curve}
+use Rattle.laws.proofs.Powers.{nameplate-largest, curve-follows, rising-points}
+use Rattle.power.proofs.CurveLaws.{curve-small}
+use Rattle.power.proofs.PointLists.{powers-small}
 use Rattle.formats.proofs.Sheets.{sheet-read-back, sheet-written-out, one-reading, default-written}
 use Rattle.formats.proofs.Forms.{forms-read}
 use Rattle.formats.proofs.SampleLines.{samples-answered, one-answer}
@@ -18,7 +24,7 @@ use Rattle.demands.specs.Demands.{OurRefusals, OurSheetRefusals, OurTran
 use Rattle.demands.specs.Demands.{OneSheetReading, DefaultSheetWritten, UnderAcceptedTexts, LinesOfForms, SampleLinesAnswered, OneSampleAnswer}
 use Rattle.demands.specs.Demands.{AcceptedSamplesWritable, SampleLinesReadBack, SampleLinesWrittenOut, EveryCounter, SensingRule, EdgeValues}
 use Rattle.demands.specs.Demands.{ShamsCaught, ShamImagesCaught, ShamReadingsCaught, AnyTripAndReturn, AnyTwoHistories, OurEquipmentSound}
-use Rattle.demands.specs.Demands.{AlikeEquipmentStepsAlike}
+use Rattle.demands.specs.Demands.{AlikeEquipmentStepsAlike, PowerLaws}
 use Rattle.demands.proofs.Edges.{edges-hold}
 use Rattle.demands.proofs.Writable.{accepted-writable}
 use Rattle.demands.proofs.Sound.{our-equipment-sound}
@@ -81,6 +87,17 @@ everyCounter = counter-rule
 
 pub sensingRule : SensingRule
 sensingRule code h = voltage-root code (omega arith)
+
+pub powerLaws : PowerLaws
+powerLaws =
+    record {
+      leaves = nameplate-largest;
+      follows = curve-follows;
+      alone = one-curve;
+      var-curve = λ st ok. curve-follows (st .var) (rising-points (st .var) (var-rises st ok));
+      watt-curve = λ st ok. curve-follows (st .watt) (rising-points (st .watt) (watt-rises st ok));
+      beside-vars = λ st ok v. nameplate-largest (curve (st .var) v) (curve-small 10000 (st .var) v (powers-small (st .var) (var-rises st ok)));
+    }
 
 pub edgeValues : EdgeValues
 edgeValues = edges-hold

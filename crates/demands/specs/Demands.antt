@@ -14,11 +14,14 @@
 use mathlib.Core.Path.{_≡_}
 use mathlib.Core.Bool.{true}
 use mathlib.Core.List.{List, _∷_}
-use Prim.Native.Nat.{ℕ, _*_, _≤_}
+use Prim.Native.Nat.{ℕ, _*_, _≤_, _<_}
+use lib.ListN.{length}
+use lib.IntN.{ℤ, natAbs}
 use Rattle.rules.specs.Sensing.{lastCode, voltage}
 use Rattle.rules.specs.Settings.{settingsAccepted}
 use Rattle.rules.specs.Samples.{Slice, Equipment, sampleAccepted}
 use Rattle.rules.specs.Counters.{Rule}
+use Rattle.rules.specs.Curves.{curve, nameplate}
 use Rattle.rules.specs.Regions.{ourEquipment}
 use Rattle.rules.specs.Records.{stepOf}
 use Rattle.rules.specs.History.{historyReport}
@@ -27,6 +30,7 @@ use Rattle.rules.specs.Forms.{numbersOf}
 use Rattle.rules.specs.Sheets.{SheetReading, readSheet}
 use Rattle.rules.specs.Defaults.{defaultSheet, defaultSettings}
 use Rattle.rules.specs.Transcripts.{Line, ended, linesIn, lineStep}
+use Rattle.rules.specs.declared.Point.{Point}
 use Rattle.rules.specs.declared.Settings.{Settings}
 use Rattle.rules.specs.declared.Board.{Board}
 use Rattle.rules.specs.declared.SettingsCheck.{SettingsCheck}
@@ -38,6 +42,7 @@ use Rattle.program.specs.Sessions.{TranscriptLaw}
 use Rattle.claims.specs.Calls.{Program, ruledBy}
 use Rattle.claims.specs.Sound.{Sound}
 use Rattle.claims.specs.Alike.{Alike}
+use Rattle.claims.specs.Powers.{LargestBeside, RisingPoints, FollowsPoints}
 use Rattle.claims.specs.FirstCause.{RefusesRightly}
 use Rattle.claims.specs.SheetCauses.{SheetsRefusedRightly}
 use Rattle.claims.specs.TripAndReturn.{TripAndReturn, CounterRule, Demand2}
@@ -158,6 +163,19 @@ EveryCounter = (r : Rule) → CounterRule r
 -- The sensing rule without a search: a code's voltage has a square of at most code × 100,000, and the next number has not.
 abbrev pub SensingRule : Type 0
 SensingRule = (code : ℕ) → code ≤ lastCode → IsRoot (code * 100000) (voltage code)
+
+-- Watts and vars without a search: `LargestBeside`, `FollowsPoints` in claims/specs/Powers.antt. What the nameplate leaves beside vars of up to 10000
+-- fits the rating, and one more does not. A curve has each point's power at its voltage, is flat outside its points, and between two of them lies within their powers,
+-- off the exact line by less than one, toward the left point's power. The points of an accepted sheet rise, so this is so of its two curves, and
+-- of the nameplate beside whatever its volt-var curve gives.
+pub record PowerLaws : Type 0 where
+  pub leaves : (vars : ℤ) → natAbs vars ≤ 10000 → LargestBeside vars (nameplate vars)
+  pub follows : (points : List Point) → RisingPoints points → FollowsPoints points (curve points)
+  -- nothing else does
+  pub alone : (points : List Point) → 0 < length points → RisingPoints points → (f : ℕ → ℤ) → FollowsPoints points f → (v : ℕ) → f v ≡ curve points v
+  pub var-curve : (st : Settings) → settingsAccepted st ≡ true → FollowsPoints (st .var) (curve (st .var))
+  pub watt-curve : (st : Settings) → settingsAccepted st ≡ true → FollowsPoints (st .watt) (curve (st .watt))
+  pub beside-vars : (st : Settings) → settingsAccepted st ≡ true → (v : ℕ) → LargestBeside (curve (st .var) v) (nameplate (curve (st .var) v))
 
 -- The values of spec 14.1, one table: specs/Edges.antt.
 abbrev pub EdgeValues : Type 0

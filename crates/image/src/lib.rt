@@ -1,9 +1,12 @@
 // Spec 9: the image of a board record, 45 bytes, high byte first.
 ghost use mathlib.Core.Path.{_≡_};
-ghost use mathlib.Core.List.{map};
+ghost use mathlib.Core.List.{[], _∷_, map};
 ghost use Prim.Native.Nat.{_+_, _≤_};
+ghost use lib.Dec.{ltb};
 ghost use lib.ListN.{length};
 ghost use Rattle.buffers.specs.Written.{written, Wrote};
+ghost use Rattle.claims.specs.FirstCause.{cause, first};
+ghost use Rattle.rules.specs.Refusals.{savedNumber};
 ghost use Rattle.rules.specs.Images.{numberBytes, field, fieldBytes, twosComplement, image, imageLength, saveCheck, savedInto};
 use rules::Board;
 use rules::Refusal;
@@ -72,6 +75,7 @@ fn put_image(out: &mut [u8], b: Board)
 // The image at the front of a lent buffer; the bytes after it are untouched. A buffer under 45 bytes keeps every byte.
 pub fn save(b: Board, out: &mut [u8]) -> Saved
     ensures { λ r. ⌜ (r ≡ saveCheck (now (out .entry))) × (now (out .exit) ≡ savedInto b (now (out .entry))) ⌝ }
+    ensures { λ r. ⌜ savedNumber r ≡ first (cause 9 (ltb (length (now (out .entry))) imageLength) ∷ []) ⌝ }
 {
     if out.len() < IMAGE_LENGTH {
         return Saved::Refused(Refusal::Buffer);

@@ -95,7 +95,7 @@ lines-line n (r ∷ rs) [] = refl
 lines-line n (r ∷ rs) (ps ∷ ls) =
     line-line (all (map (inRow r) ps)) (rising ps) n (checkFrom (suc n) rs ls) (causeLine (suc n) (lineCauses rs ls)) (lines-line (suc n) rs ls)
 
-settings-line : (st : Settings) → lineOf (settingsCheck st) ≡ causeLine 1 (settingsCauses st)
+pub settings-line : (st : Settings) → lineOf (settingsCheck st) ≡ causeLine 1 (settingsCauses st)
 unfolding settingsCheck
 settings-line st = lines-line 1 rows (linesOf st)
 
@@ -103,7 +103,7 @@ alone : (k : SettingsCheck) → settingsNumber k ≡ thenNumber k 0
 alone SettingsCheck.Accepted = refl
 alone (SettingsCheck.Refused c line) = refl
 
-settings-number : (st : Settings) → settingsNumber (settingsCheck st) ≡ first (settingsCauses st)
+pub settings-number : (st : Settings) → settingsNumber (settingsCheck st) ≡ first (settingsCauses st)
 settings-number st = alone (settingsCheck st) ∙ settings-then st [] ∙ ap first (append-nil (settingsCauses st))
 
 -- ---- samples
@@ -118,7 +118,7 @@ ladder true true true false p = refl
 ladder true true true true false = refl
 ladder true true true true true = refl
 
-sample-number : (x : Slice) → sampleNumber (sampleCheck x) ≡ first (sampleCauses x)
+pub sample-number : (x : Slice) → sampleNumber (sampleCheck x) ≡ first (sampleCauses x)
 unfolding sampleCheck
 sample-number x =
     ladder (eqb (length x) 7) (all (leb (codeOf x 0) 4095 ∷ leb (codeOf x 1) 4095 ∷ leb (codeOf x 2) 4095 ∷ [])) (within 40000 80000 (frequency x))
@@ -164,7 +164,7 @@ module _ (e : Equipment) (b : Board) (st : Settings) (x : Slice) where
 
 -- ---- sensing and saving
 
-sense-number : (code : ℕ) → sensedNumber (sensed code) ≡ first (cause 4 (ltb lastCode code) ∷ [])
+pub sense-number : (code : ℕ) → sensedNumber (sensed code) ≡ first (cause 4 (ltb lastCode code) ∷ [])
 unfolding sensed
 sense-number code = by (leb code lastCode) ∙ ap (λ (b : Bool). cond b 4 0) (above code lastCode)
   where
@@ -172,7 +172,7 @@ sense-number code = by (leb code lastCode) ∙ ap (λ (b : Bool). cond b 4 0) (a
     by true = refl
     by false = refl
 
-save-number : (buffer : List ℕ) → savedNumber (saveCheck buffer) ≡ first (cause 9 (ltb (length buffer) imageLength) ∷ [])
+pub save-number : (buffer : List ℕ) → savedNumber (saveCheck buffer) ≡ first (cause 9 (ltb (length buffer) imageLength) ∷ [])
 unfolding saveCheck
 save-number buffer = by (leb imageLength (length buffer)) ∙ ap (λ (b : Bool). cond b 9 0) (above imageLength (length buffer))
   where

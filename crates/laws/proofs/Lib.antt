@@ -10,6 +10,8 @@ pub mod Probes
 pub mod Ramps
 pub mod Images
 pub mod Curves
+pub mod Powers
+pub mod OneCurve
 pub mod Least
 pub mod Demand3
 pub mod SameRules

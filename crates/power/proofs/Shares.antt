@@ -13,15 +13,15 @@ use Rattle.basics.proofs.Signs.{abs-neg}
 use Rattle.power.proofs.Magnitude.{abs-sub}
 
 -- a power difference added to the left power is the right power
-right-power : (a b : ℤ) → a +ℤ (b -ℤ a) ≡ b
+pub right-power : (a b : ℤ) → a +ℤ (b -ℤ a) ≡ b
 right-power a b = +ℤ-comm a (b -ℤ a) ∙ -ℤ-+ℤ-cancel b a
 
 -- a share is at most the whole
-share-le : (n x g : ℕ) → x ≤ g → n * x / g ≤ n
+pub share-le : (n x g : ℕ) → x ≤ g → n * x / g ≤ n
 share-le n x g h = div-le-of-le-mul g (rw (mul-comm g n) (mul-le-mul-left n h))
 
 -- a negative number's quotient is its magnitude's, with the sign put back
-quot-neg : (m g : ℕ) → quotZ (negℤ (pos m)) (pos g) ≡ negℤ (pos (m / g))
+pub quot-neg : (m g : ℕ) → quotZ (negℤ (pos m)) (pos g) ≡ negℤ (pos (m / g))
 quot-neg zero g = rw zero-div
 quot-neg (suc m) g = refl
 

@@ -2,7 +2,11 @@
 ghost use mathlib.Core.Path.{_≡_};
 ghost use Prim.Native.Nat.{_<_};
 ghost use lib.ListN.{getD};
-ghost use Rattle.rules.specs.Sensing.{sensed};
+ghost use mathlib.Core.List.{[], _∷_};
+ghost use lib.Dec.{ltb};
+ghost use Rattle.rules.specs.Sensing.{lastCode, sensed};
+ghost use Rattle.rules.specs.Refusals.{sensedNumber};
+ghost use Rattle.claims.specs.FirstCause.{cause, first};
 ghost use Rattle.sensing.specs.Tables.{IsTable};
 
 mod entries;
@@ -29,6 +33,7 @@ pub fn volts(table: &[u16; 4096], code: u32) -> u16
 // The voltage of any code: one above the table is refused, and never given the last entry.
 pub fn sense(code: u32) -> Sensed
     ensures { λ r. ⌜ r ≡ sensed code ⌝ }
+    ensures { λ r. ⌜ sensedNumber r ≡ first (cause 4 (ltb lastCode code) ∷ []) ⌝ }
 {
     if code < 4096 {
         let t = table();

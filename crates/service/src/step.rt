@@ -8,8 +8,10 @@ ghost use Rattle.rules.specs.Settings.{settingsAccepted};
 ghost use Rattle.rules.specs.Samples.{Slice, Equipment};
 ghost use Rattle.rules.specs.Regions.{voltageRegion, regionOf, isContinuous, ourEquipment, equippedWith};
 ghost use Rattle.rules.specs.Service.{serves, ramped, statusOf, inService};
+ghost use Rattle.rules.specs.Refusals.{answerNumber};
 ghost use Rattle.rules.specs.Reports.{packedAfter};
 ghost use Rattle.rules.specs.Records.{fresh, settled, next, stepOf};
+ghost use Rattle.claims.specs.FirstCause.{first, settingsCauses, sampleCauses};
 ghost use Rattle.readings.specs.Readings.{readingOf, Exportable};
 ghost use Rattle.service.specs.Steps.{Bits, reported};
 use crate::powers::powers_in;
@@ -188,6 +190,7 @@ pub fn step_accepted(table: &[u16; 4096], b: Board, s: Settings, x: &[u32]) -> S
 // The step: settings are checked for 2 and 3 in sheet order, then the slice for 8, 4, 5, 6, 7; a refused call changes nothing.
 pub fn step(b: Board, s: Settings, x: &[u32]) -> Stepped
     ensures { λ t. ⌜ t ≡ stepOf ourEquipment b s (now (x .entry)) ⌝ }
+    ensures { λ t. ⌜ answerNumber (t .answer) ≡ first (settingsCauses s ++ sampleCauses (now (x .entry))) ⌝ }
 {
     match settings::check(s) {
         SettingsCheck::Refused(cause, _) => Stepped {

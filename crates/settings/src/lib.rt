@@ -4,6 +4,8 @@ ghost use mathlib.Core.List.{map};
 ghost use Prim.Native.Nat.{_<_};
 ghost use Rattle.rules.specs.Tests.{all};
 ghost use Rattle.rules.specs.Settings.{sheetLines, inRow, rising, settingsCheck};
+ghost use Rattle.rules.specs.Refusals.{settingsNumber, lineOf};
+ghost use Rattle.claims.specs.FirstCause.{first, settingsCauses, causeLine};
 ghost use Rattle.settings.specs.Rows.{rowOf, rowAt};
 ghost use Rattle.settings.specs.Lines.{lineAt, lineFound};
 
@@ -85,6 +87,7 @@ pub fn check_line(s: Settings, line: usize) -> SettingsCheck
 // Refusals 2 and 3: the first found in sheet order (spec 4.3).
 pub fn check(s: Settings) -> SettingsCheck
     ensures { λ r. ⌜ r ≡ settingsCheck s ⌝ }
+    ensures { λ r. ⌜ (settingsNumber r ≡ first (settingsCauses s)) × (lineOf r ≡ causeLine 1 (settingsCauses s)) ⌝ }
 {
     let rows = table();
     let mut line = 0;

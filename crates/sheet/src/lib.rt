@@ -3,9 +3,8 @@ ghost use mathlib.Core.Path.{_≡_};
 ghost use Prim.Native.Nat.{_+_, _<_, _≤_};
 ghost use lib.ListN.{length};
 ghost use Rattle.rules.specs.Settings.{sheetLines};
-ghost use Rattle.rules.specs.Sheets.{readSheet};
 ghost use Rattle.sheet.specs.Storing.{lineRead};
-ghost use Rattle.sheet.specs.Outcomes.{Gives};
+ghost use Rattle.sheet.specs.Outcomes.{SheetGiven};
 ghost use Rattle.sheet.specs.Parts.{IsPart, IsPartFrom};
 
 mod storing;
@@ -63,7 +62,7 @@ pub struct SheetOutcome {
 
 // The sheet at the front of lent bytes. What follows its last line is not looked at.
 pub fn read(s: &[u8]) -> SheetOutcome
-    ensures { λ r. ⌜ Gives r (readSheet (now (s .entry))) ⌝ }
+    ensures { λ r. ⌜ SheetGiven (now (s .entry)) r ⌝ }
     ensures { λ r. ⌜ r .start ≤ length (now (s .entry)) ⌝ }
 {
     let mut settings = no_settings();

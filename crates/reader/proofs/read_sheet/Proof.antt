@@ -29,10 +29,9 @@ use denote.Steps.{peeks, owned, heard}
 use denote.Struct.Laws as LL
 use denote.Triple.Call.{calls-at}
 use denote.Triple.Clauses.{ensured}
-use Rattle.rules.specs.Sheets.{readSheet}
 use Rattle.rules.specs.declared.Settings.{Settings}
 use Rattle.rules.specs.declared.SettingsCheck.{SettingsCheck}
-use Rattle.sheet.specs.Outcomes.{Gives}
+use Rattle.sheet.specs.Outcomes.{SheetGiven}
 use Rattle.sheet.specs.Parts.{IsPartFrom}
 use Rattle.sheet.specs.declared.SheetOutcome.{SheetOutcome}
 use Rattle.sheet.proofs.HandedBack.{handed-back}
@@ -113,7 +112,7 @@ module _ {M : Type 1} (𝓤 : URA M) (H : Heap 𝓤) (A : Atoms 𝓤) (W : Given
         nothing ! $ move ! (3 ∷ 0 ∷ []) $ join ! $ join ! $ nothing ! $ move ! (1 ∷ 0 ∷ []) $ join ! $ frame ! $ done !
 
     abbrev Found : SheetOutcome → Type 0
-    Found d = Gives d (readSheet (now s))
+    Found d = SheetGiven (now s) d
 
     abbrev Inside : SheetOutcome → Type 0
     Inside d = d .start ≤ length (now s)
@@ -135,7 +134,14 @@ module _ {M : Type 1} (𝓤 : URA M) (H : Heap 𝓤) (A : Atoms 𝓤) (W : Given
     made-val d u = vstruct (vcons (check .val (d .check)) (vcons (settings .val (d .settings)) (vcons u vnil)))
 
     reads : (d : SheetOutcome) (l : RefT (List ℕ)) → Found d → Inside d → IsPartFrom (d .check) (d .start) s l → Reads s (made d l)
-    reads d l e h p = record { check = e .check; settings = e .settings; line = handed-back s l (d .check) (d .start) (e .check) (e .start) h p }
+    reads d l e h p =
+        let g = e .gives in
+        record {
+          check = g .check;
+          numbered = e .numbered;
+          settings = g .settings;
+          line = handed-back s l (d .check) (d .start) (g .check) (g .start) h p;
+        }
 
     exits : (d : SheetRead) (u : Val) → Reads s d → ent 𝓤 (⋆ 𝓤 H A (‵ (T.the-row α .own d (u ∷ [])) ∷ pairs Has)) (Post u)
     exits d u e =

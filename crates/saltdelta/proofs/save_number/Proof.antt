@@ -24,7 +24,7 @@ same-length c = search needs
 
 returns : tie.Need-returns
 returns c =
-    let told = c .before .before .before .before .save .ensures in
+    let told = c .before .before .before .before .save .ensures .0 in
     (saved _ _ Saved.Written (told .0) (c .enum-told .given .1), told .1)
 
 same-length-2 : tie.Need-same-length-2
@@ -32,7 +32,7 @@ same-length-2 c = search needs
 
 returns-2 : tie.Need-returns-2
 returns-2 c =
-    let told = c .before .before .before .before .before .before .save .ensures in
+    let told = c .before .before .before .before .before .before .save .ensures .0 in
     (c .number-of .ensures ∙ saved _ _ (Saved.Refused _) (told .0) (c .before .before .cause .given .1), told .1)
 
 pub save-number-spec : {M : Type 1} → statement M

@@ -29,16 +29,16 @@ returns c =
     let a = c .before .before .before .before .before .before .args in
     let d = c .before .before .before .before .read in
     let p = c .before .before .part-from in
-    let part = handed-back (a .bytes) (p .result) (d .result .check) (d .result .start) (d .ensures .0 .check) (d .ensures .0 .start) (d .ensures .1) (p .ensures) in
-    accepted _ (d .result) (d .ensures .0) _ (part .bytes) (c .enum-told .given .1)
+    let part = handed-back (a .bytes) (p .result) (d .result .check) (d .result .start) (d .ensures .0 .gives .check) (d .ensures .0 .gives .start) (d .ensures .1) (p .ensures) in
+    accepted _ (d .result) (d .ensures .0 .gives) _ (part .bytes) (c .enum-told .given .1)
 
 returns-2 : tie.Need-returns-2
 returns-2 c =
     let a = c .before .before .before .before .before .before .before .before .args in
     let d = c .before .before .before .before .before .before .read in
     let p = c .before .before .before .before .part-from in
-    let part = handed-back (a .bytes) (p .result) (d .result .check) (d .result .start) (d .ensures .0 .check) (d .ensures .0 .start) (d .ensures .1) (p .ensures) in
-    turned-away _ (d .result) (d .ensures .0) _ (part .bytes) _ _ _ (c .before .before .check .given .1) (c .number-of .ensures)
+    let part = handed-back (a .bytes) (p .result) (d .result .check) (d .result .start) (d .ensures .0 .gives .check) (d .ensures .0 .gives .start) (d .ensures .1) (p .ensures) in
+    turned-away _ (d .result) (d .ensures .0 .gives) _ (part .bytes) _ _ _ (c .before .before .check .given .1) (c .number-of .ensures)
 
 pub sheet-call-spec : {M : Type 1} → statement M
 sheet-call-spec =

@@ -21,13 +21,13 @@ returns : tie.Need-returns
 returns c =
     let a = c .before .before .before .before .before .before .args in
     let t = c .before .before .before .before .step in
-    reported (a .b) (a .s) _ (t .result) (t .ensures) _ (c .before .answer .given .1)
+    reported (a .b) (a .s) _ (t .result) (t .ensures .0) _ (c .before .answer .given .1)
 
 returns-2 : tie.Need-returns-2
 returns-2 c =
     let a = c .before .before .before .before .before .before .before .args in
     let t = c .before .before .before .before .before .step in
-    refused (a .b) (a .s) _ (t .result) (t .ensures) _ _ (c .before .before .answer2 .given .1) (c .number-of .ensures)
+    refused (a .b) (a .s) _ (t .result) (t .ensures .0) _ _ (c .before .before .answer2 .given .1) (c .number-of .ensures)
 
 pub step-call-spec : {M : Type 1} → statement M
 step-call-spec =

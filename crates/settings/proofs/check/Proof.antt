@@ -4,14 +4,23 @@ use mathlib.Core.Path.{_≡_, refl, sym, ap, _∙_}
 use Prim.Native.Nat.{_+_, _-_, _≤_}
 use native.Mathlib.Omega.{arith}
 use Rattle.rules.specs.Settings.{sheetLines, settingsCheck}
+use Rattle.rules.specs.Refusals.{settingsNumber, lineOf}
+use Rattle.rules.specs.declared.Settings.{Settings}
 use Rattle.rules.specs.declared.SettingsCheck.{SettingsCheck}
 use Rattle.settings.specs.Rows.{rowAt}
 use Rattle.settings.specs.Lines.{lineAt, lineFound}
 use Rattle.settings.proofs.Rows.{row-here}
 use Rattle.settings.proofs.Steps.{from, line-more, line-end, line-passes, line-refuses}
+use Rattle.claims.specs.FirstCause.{first, settingsCauses, causeLine}
+use Rattle.laws.proofs.FirstCause.{settings-number, settings-line}
 use borrow.Author.Needs.{needs}
 use Rattle.settings.proofs.check.Statement.{statement}
 use Rattle.settings.proofs.check.Tie as tie
+
+-- the check, and so its number and its line
+promised : (s : Settings) (r : SettingsCheck) → r ≡ settingsCheck s
+    → (r ≡ settingsCheck s) × ((settingsNumber r ≡ first (settingsCauses s)) × (lineOf r ≡ causeLine 1 (settingsCauses s)))
+promised s r e = (e, (ap settingsNumber e ∙ settings-number s, ap lineOf e ∙ settings-line s))
 
 abbrev Inv-loop : tie.InvT-loop
 Inv-loop s rows line₀ line = (line ≤ sheetLines) × (settingsCheck s ≡ from s line)
@@ -70,10 +79,12 @@ returns c =
     let n = told .0 .1 .0 in
     let found : lineFound (rowAt i) (lineAt s i) i ≡ SettingsCheck.Refused cause n = rw (← row) (sym (c .before .before .line-check .ensures) ∙ told .1) in
     let refused = line-refuses (rowAt i) (lineAt s i) i (from s (i + 1)) (λ why. SettingsCheck.Refused why (i + 1)) cause n found in
-    told .1 ∙ ap (SettingsCheck.Refused cause) (refused .1) ∙ sym (at .loop .inv .1 ∙ line-more s i (omega arith) ∙ refused .0)
+    promised s _ (told .1 ∙ ap (SettingsCheck.Refused cause) (refused .1) ∙ sym (at .loop .inv .1 ∙ line-more s i (omega arith) ∙ refused .0))
 
 returns-2 : tie.Need-returns-2 Inv-loop μ-loop
-returns-2 c = rw (c .before .loop .inv .1, line-end (c .before .before .before .args .s) (c .before .loop .line) (omega arith))
+returns-2 c =
+    let s = c .before .before .before .args .s in
+    promised s _ (sym (c .before .loop .inv .1 ∙ line-end s (c .before .loop .line) (omega arith)))
 
 pub check-spec : {M : Type 1} → statement M
 check-spec =

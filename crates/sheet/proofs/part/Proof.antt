@@ -14,7 +14,7 @@ part-from-requires c κs = search needs
 returns : tie.Need-returns
 returns c =
     let r = c .before .read in
-    handed-back (c .before .before .before .args .s) _ (r .result .check) (r .result .start) (r .ensures .0 .check) (r .ensures .0 .start) (r .ensures .1)
+    handed-back (c .before .before .before .args .s) _ (r .result .check) (r .result .start) (r .ensures .0 .gives .check) (r .ensures .0 .gives .start) (r .ensures .1)
     (c .part-from .ensures)
 
 pub part-spec : {M : Type 1} → statement M

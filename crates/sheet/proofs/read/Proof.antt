@@ -1,13 +1,33 @@
 -- `sheet::read` meets its contract. The loop's invariant: i lines are read, and the rest is read from here on (`Reading.antt`).
 -- Assumes nothing.
-use Prim.Native.Nat.{_-_}
+use mathlib.Core.Path.{_≡_, sym, subst}
+use mathlib.Core.List.{List}
+use mathlib.Core.Logic.{_↔_}
+use Prim.Native.Nat.{ℕ, _+_, _-_}
 use native.Mathlib.Omega.{arith}
 use denote.Ref.{now}
 use borrow.Author.Needs.{needs}
 use Rattle.rules.specs.Settings.{sheetLines}
+use Rattle.rules.specs.Refusals.{settingsNumber, lineOf}
+use Rattle.rules.specs.Sheets.{readSheet}
+use Rattle.rules.specs.declared.SettingsCheck.{SettingsCheck}
+use Rattle.claims.specs.SheetCauses.{FirstCauseAt}
+use Rattle.laws.proofs.SheetCauses.{sheets-refused-rightly}
+use Rattle.sheet.specs.Outcomes.{Gives, SheetGiven}
+use Rattle.sheet.specs.declared.SheetOutcome.{SheetOutcome}
 use Rattle.sheet.proofs.Reading.{Going, beginning, unended, goes-on, stops, finished}
 use Rattle.sheet.proofs.read.Statement.{statement}
 use Rattle.sheet.proofs.read.Tie as tie
+
+-- the rules' reading, and so its number and line
+given : (s : List ℕ) (r : SheetOutcome) → Gives r (readSheet s) → SheetGiven s r
+given s r e =
+    record {
+      gives = e;
+      numbered = λ i n h.
+          subst (λ (c : SettingsCheck). ((settingsNumber c ≡ n) × (lineOf c ≡ i + 1)) ↔ FirstCauseAt s i n) (sym (e .check))
+          (sheets-refused-rightly .refuses s i n h);
+    }
 
 abbrev Inv-loop : tie.InvT-loop
 Inv-loop s settings₀ at₀ i₀ settings at i = Going s settings at i
@@ -36,7 +56,7 @@ returns c =
     let w = c .before .before .before .before .before .loop in
     let s = now (c .before .before .before .before .before .before .before .before .args .s) in
     let end = c .before .before .before .line-end in (
-      unended s (w .settings) (w .at) (w .i) (end .result) (w .inv) (omega arith) (end .ensures .0) (end .ensures .1) (omega arith) (c .before .number-of .result) (c .no-settings2 .result) (c .before .number-of .ensures) (c .no-settings2 .ensures),
+      given s _ (unended s (w .settings) (w .at) (w .i) (end .result) (w .inv) (omega arith) (end .ensures .0) (end .ensures .1) (omega arith) (c .before .number-of .result) (c .no-settings2 .result) (c .before .number-of .ensures) (c .no-settings2 .ensures)),
       w .inv .inside,
     )
 
@@ -83,14 +103,15 @@ returns-2 c =
     let w = c .before .before .before .before .before .before .before .before .loop in
     let s = now (c .before .before .before .before .before .before .before .before .before .before .before .args .s) in
     let end = c .before .before .before .before .before .before .line-end in (
-      stops s (w .settings) (w .at) (w .i) (end .result) (w .inv) (omega arith) (end .ensures .0) (end .ensures .1) (omega arith) (c .before .before .before .read-line .result) (c .before .before .before .read-line .ensures) _ _ (c .before .enum-told2 .given .1) (c .no-settings3 .result) (c .no-settings3 .ensures),
+      given s _ (stops s (w .settings) (w .at) (w .i) (end .result) (w .inv) (omega arith) (end .ensures .0) (end .ensures .1) (omega arith) (c .before .before .before .read-line .result) (c .before .before .before .read-line .ensures) _ _ (c .before .enum-told2 .given .1) (c .no-settings3 .result) (c .no-settings3 .ensures)),
       w .inv .inside,
     )
 
 returns-3 : tie.Need-returns-3 Inv-loop μ-loop
 returns-3 c =
     let w = c .before .loop in
-    (finished (now (c .before .before .before .before .args .s)) (w .settings) (w .at) (w .i) (w .inv) (omega arith), w .inv .inside)
+    let s = now (c .before .before .before .before .args .s) in
+    (given s _ (finished s (w .settings) (w .at) (w .i) (w .inv) (omega arith)), w .inv .inside)
 
 pub read-spec : {M : Type 1} → statement M
 read-spec =

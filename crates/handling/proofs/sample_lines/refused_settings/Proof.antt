@@ -21,13 +21,13 @@ returns : tie.Need-returns
 returns c =
     λ e x.
     let start = c .before .before .before .before in
-    sym (settings-refused e (start .args .s) x (start .args .b) _ _ (sym (c .before .before .before .check .ensures) ∙ c .before .cause .given .1))
+    sym (settings-refused e (start .args .s) x (start .args .b) _ _ (sym (c .before .before .before .check .ensures .0) ∙ c .before .cause .given .1))
 
 returns-2 : tie.Need-returns-2
 returns-2 c =
     λ e x.
     let start = c .before .before .before in
-    absurd (false≢true (sym (start .pre) ∙ ap isAccepted (sym (c .before .before .check .ensures) ∙ c .enum-told .given .1)))
+    absurd (false≢true (sym (start .pre) ∙ ap isAccepted (sym (c .before .before .check .ensures .0) ∙ c .enum-told .given .1)))
 
 pub refused-settings-spec : {M : Type 1} → statement M
 refused-settings-spec =
