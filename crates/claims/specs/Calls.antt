@@ -1,17 +1,23 @@
--- Spec 12.1 to 12.3: lists of step calls on one record, and the accepted samples among them.
+-- Spec 5.6, 12.1 to 12.3: any program that could be called a board; lists of step calls on one record, and the accepted samples among them.
 -- Assumes nothing.
 use mathlib.Core.Path.{_≡_}
 use mathlib.Core.Bool.{Bool, false, cond, _&&_}
 use mathlib.Core.Logic.{_⊎_}
 use mathlib.Core.List.{List, [], _∷_}
+use Prim.Native.Nat.{ℕ}
 use lib.IntN.{pos}
-use Rattle.rules.specs.Settings.{settingsAccepted}
+use Rattle.rules.specs.Sensing.{sensed}
+use Rattle.rules.specs.Settings.{settingsCheck, settingsAccepted}
 use Rattle.rules.specs.Samples.{Slice, Equipment, sampleAccepted}
 use Rattle.rules.specs.Records.{fresh, stepOf}
 use Rattle.rules.specs.History.{History}
+use Rattle.rules.specs.Images.{saveCheck, savedInto}
 use Rattle.rules.specs.declared.Settings.{Settings}
 use Rattle.rules.specs.declared.Board.{Board}
 use Rattle.rules.specs.declared.Report.{Report}
+use Rattle.rules.specs.declared.SettingsCheck.{SettingsCheck}
+use Rattle.rules.specs.declared.Sensed.{Sensed}
+use Rattle.rules.specs.declared.Saved.{Saved}
 use Rattle.rules.specs.declared.Answer.{Answer}
 use Rattle.rules.specs.declared.Stepped.{Stepped}
 
@@ -28,6 +34,18 @@ pub record Program : Type 0 where
 -- the program that the rules describe, with this equipment: a fresh board, and the step by the rules
 abbrev pub ruledBy : Equipment → Program
 ruledBy e = record { start = fresh; step = stepOf e }
+
+-- what a host calls (spec 5.6): the check of settings, sensing, the step, and the saving with its answer and the buffer after it
+pub record Operations : Type 0 where
+  pub check : Settings → SettingsCheck
+  pub sense : ℕ → Sensed
+  pub step : Board → Settings → Slice → Stepped
+  pub save : Board → List ℕ → Saved
+  pub buffer : Board → List ℕ → List ℕ
+
+-- those that the rules describe, with this equipment
+abbrev pub operationsBy : Equipment → Operations
+operationsBy e = record { check = settingsCheck; sense = sensed; step = stepOf e; save = λ b buffer. saveCheck buffer; buffer = savedInto }
 
 -- spec 8.2: the report of a fresh board
 abbrev pub freshReport : Report

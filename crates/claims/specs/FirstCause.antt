@@ -1,4 +1,4 @@
--- Demand 1, for the library (spec 11, 13.1): the causes of each public operation, as a list in their order.
+-- Demand 1, for the library (spec 11, 13.1), as a claim about any operations: the causes of each, as a list in their order.
 -- Assumes nothing.
 use mathlib.Core.Path.{_≡_}
 use mathlib.Core.Bool.{Bool, cond, not, _||_}
@@ -7,14 +7,14 @@ use Prim.Native.Nat.{ℕ, suc, _<_}
 use lib.Dec.{ltb, eqb}
 use lib.ListN.{length, drop}
 use Rattle.rules.specs.Tests.{all}
-use Rattle.rules.specs.Sensing.{lastCode, sensed}
-use Rattle.rules.specs.Settings.{Pair, Row, rows, inRow, rising, linesOf, settingsCheck}
+use Rattle.rules.specs.Sensing.{lastCode}
+use Rattle.rules.specs.Settings.{Pair, Row, rows, inRow, rising, linesOf}
 use Rattle.rules.specs.Refusals.{settingsNumber, lineOf, sensedNumber, answerNumber, savedNumber}
-use Rattle.rules.specs.Samples.{Slice, Equipment, codeOf, frequency, permission, available, operatorLimit}
-use Rattle.rules.specs.Records.{stepOf}
-use Rattle.rules.specs.Images.{imageLength, saveCheck, savedInto}
+use Rattle.rules.specs.Samples.{Slice, codeOf, frequency, permission, available, operatorLimit}
+use Rattle.rules.specs.Images.{imageLength}
 use Rattle.rules.specs.declared.Settings.{Settings}
 use Rattle.rules.specs.declared.Board.{Board}
+use Rattle.claims.specs.Calls.{Operations}
 
 -- a row of the table of turned-away input: its number, and whether it is so of the input
 pub record Cause : Type 0 where
@@ -55,15 +55,15 @@ causeLine n [] = 0
 causeLine n (c ∷ []) = 0
 causeLine n (c ∷ d ∷ cs) = cond (c .holds || d .holds) n (causeLine (suc n) cs)
 
--- what is claimed of each public operation: its answer's number is that of the first cause, so it refuses with n exactly when n is the
--- first cause and accepts input with none; and a refusal changes nothing
-pub record RefusesRightly (e : Equipment) : Type 0 where
-  pub check : (st : Settings) → settingsNumber (settingsCheck st) ≡ first (settingsCauses st)
-  pub check-line : (st : Settings) → lineOf (settingsCheck st) ≡ causeLine 1 (settingsCauses st)
-  pub sense : (code : ℕ) → sensedNumber (sensed code) ≡ first (cause 4 (ltb lastCode code) ∷ [])
-  pub step : (b : Board) (st : Settings) (x : Slice) → answerNumber (stepOf e b st x .answer) ≡ first (settingsCauses st ++ sampleCauses x)
-  pub step-keeps : (b : Board) (st : Settings) (x : Slice) → 0 < answerNumber (stepOf e b st x .answer) → stepOf e b st x .board ≡ b
-  pub save : (buffer : List ℕ) → savedNumber (saveCheck buffer) ≡ first (cause 9 (ltb (length buffer) imageLength) ∷ [])
-  pub save-keeps : (b : Board) (buffer : List ℕ) → 0 < savedNumber (saveCheck buffer) → savedInto b buffer ≡ buffer
+-- what is claimed of any operations: an answer's number is that of the first cause, so that each refuses with n exactly when n is the first
+-- cause and accepts input with none; and a refusal changes nothing
+pub record RefusesRightly (o : Operations) : Type 0 where
+  pub check : (st : Settings) → settingsNumber (o .check st) ≡ first (settingsCauses st)
+  pub check-line : (st : Settings) → lineOf (o .check st) ≡ causeLine 1 (settingsCauses st)
+  pub sense : (code : ℕ) → sensedNumber (o .sense code) ≡ first (cause 4 (ltb lastCode code) ∷ [])
+  pub step : (b : Board) (st : Settings) (x : Slice) → answerNumber (o .step b st x .answer) ≡ first (settingsCauses st ++ sampleCauses x)
+  pub step-keeps : (b : Board) (st : Settings) (x : Slice) → 0 < answerNumber (o .step b st x .answer) → o .step b st x .board ≡ b
+  pub save : (b : Board) (buffer : List ℕ) → savedNumber (o .save b buffer) ≡ first (cause 9 (ltb (length buffer) imageLength) ∷ [])
+  pub save-keeps : (b : Board) (buffer : List ℕ) → 0 < savedNumber (o .save b buffer) → o .buffer b buffer ≡ buffer
   -- spec 9.3: the bytes behind the image
-  pub save-rest : (b : Board) (buffer : List ℕ) → length (b .counters) ≡ 9 → drop imageLength (savedInto b buffer) ≡ drop imageLength buffer
+  pub save-rest : (b : Board) (buffer : List ℕ) → length (b .counters) ≡ 9 → drop imageLength (o .buffer b buffer) ≡ drop imageLength buffer

@@ -1,5 +1,7 @@
 pub mod Calls
 pub mod Held
+pub mod Bits
+pub mod LentRecords
 pub mod Sound
 pub mod Powers
 pub mod Alike
@@ -7,3 +9,4 @@ pub mod FirstCause
 pub mod SheetCauses
 pub mod TripAndReturn
 pub mod TwoHistories
+pub mod Printed

@@ -1,5 +1,5 @@
--- Demand 1, for reading a sheet (spec 3.7 to 3.10, 13.1). Each line's causes stand by themselves, by the line's place in the text and
--- not by a run of the reader. Lines are counted from 0.
+-- Demand 1, for reading a sheet (spec 3.7 to 3.10, 13.1), as a claim about any reading. Each line's causes stand by themselves, by the line's
+-- place in the text and not by a run of the reader. Lines are counted from 0.
 -- Assumes nothing.
 use mathlib.Core.Path.{_≡_}
 use mathlib.Core.Bool.{true, false, cond, not}
@@ -14,7 +14,7 @@ use Rattle.rules.specs.Text.{firstLine, hasFeed, afterLine}
 use Rattle.rules.specs.Forms.{sheetForms, numbersOf}
 use Rattle.rules.specs.Settings.{Pair, Row, row, rows, inRow, rising, sheetLines}
 use Rattle.rules.specs.Refusals.{settingsNumber, lineOf}
-use Rattle.rules.specs.Sheets.{pairs, settingsOf, readSheet, handedBack}
+use Rattle.rules.specs.Sheets.{SheetReading, pairs, settingsOf}
 use Rattle.rules.specs.declared.SettingsCheck.{SettingsCheck}
 use Rattle.claims.specs.FirstCause.{Cause, cause, first}
 
@@ -62,19 +62,20 @@ pub record FirstCauseAt (s : List ℕ) (i n : ℕ) : Type 0 where
   pub here : lineCause i s ≡ n
   pub before : (k : ℕ) → k < i → lineCause k s ≡ 0
 
--- of every text s: reading it refuses with n at a line exactly when that is the first line with a cause and n the line's first cause, in the
--- order of spec 3.7; and accepts exactly when no line has a cause
-pub record SheetsRefusedRightly : Type 0 where
-  pub refuses : (s : List ℕ) (i n : ℕ) → 0 < n → ((settingsNumber (readSheet s .check) ≡ n) × (lineOf (readSheet s .check) ≡ i + 1)) ↔ FirstCauseAt s i n
-  pub accepts : (s : List ℕ) → (readSheet s .check ≡ SettingsCheck.Accepted) ↔ ((i : ℕ) → i < sheetLines → lineCause i s ≡ 0)
+-- of any reading, and of what it hands back, for every text s: it refuses with n at a line exactly when that is the first line with a cause and n
+-- the line's first cause, in the order of spec 3.7; and accepts exactly when no line has a cause
+pub record SheetsRefusedRightly (read : List ℕ → SheetReading) (handed : List ℕ → List ℕ) : Type 0 where
+  pub refuses : (s : List ℕ) (i n : ℕ) → 0 < n → ((settingsNumber (read s .check) ≡ n) × (lineOf (read s .check) ≡ i + 1)) ↔ FirstCauseAt s i n
+  pub accepts : (s : List ℕ) → (read s .check ≡ SettingsCheck.Accepted) ↔ ((i : ℕ) → i < sheetLines → lineCause i s ≡ 0)
   -- the settings of an accepted sheet are its thirteen lines' numbers, those of a refused one all 0
-  pub settings : (s : List ℕ) → readSheet s .check ≡ SettingsCheck.Accepted
-      → readSheet s .settings ≡ settingsOf (map (λ i. linePairs i s) (0 ∷ 1 ∷ 2 ∷ 3 ∷ 4 ∷ 5 ∷ 6 ∷ 7 ∷ 8 ∷ 9 ∷ 10 ∷ 11 ∷ 12 ∷ []))
-  pub no-settings : (s : List ℕ) → 0 < settingsNumber (readSheet s .check) → readSheet s .settings ≡ settingsOf []
-  -- spec 3.9: the part handed back
-  -- begins where the text has that line, which is inside it, and at the end where there is none (`IsPart` in sheet/specs/Parts.antt: in the caller's memory too)
-  pub place : (s : List ℕ) (i n : ℕ) → 0 < n → FirstCauseAt s i n → drop (readSheet s .start) s ≡ fromLine i s
-  pub inside : (s : List ℕ) → readSheet s .start ≤ length s
-  pub missing : (s : List ℕ) (i n : ℕ) → 0 < n → FirstCauseAt s i n → fromLine i s ≡ [] → readSheet s .start ≡ length s
-  pub back : (s : List ℕ) (i n : ℕ) → 0 < n → FirstCauseAt s i n → handedBack s ≡ firstLine (fromLine i s)
-  pub rest : (s : List ℕ) → readSheet s .check ≡ SettingsCheck.Accepted → handedBack s ≡ fromLine sheetLines s
+  pub settings : (s : List ℕ) → read s .check ≡ SettingsCheck.Accepted
+      → read s .settings ≡ settingsOf (map (λ i. linePairs i s) (0 ∷ 1 ∷ 2 ∷ 3 ∷ 4 ∷ 5 ∷ 6 ∷ 7 ∷ 8 ∷ 9 ∷ 10 ∷ 11 ∷ 12 ∷ []))
+  pub no-settings : (s : List ℕ) → 0 < settingsNumber (read s .check) → read s .settings ≡ settingsOf []
+  -- spec 3.9: the part handed back begins where the text has that line, which is inside it, and at the end where there is none; of an accepted
+  -- sheet it is what follows line 13 (`IsPart` in sheet/specs/Parts.antt: in the caller's memory too)
+  pub place : (s : List ℕ) (i n : ℕ) → 0 < n → FirstCauseAt s i n → drop (read s .start) s ≡ fromLine i s
+  pub inside : (s : List ℕ) → read s .start ≤ length s
+  pub missing : (s : List ℕ) (i n : ℕ) → 0 < n → FirstCauseAt s i n → fromLine i s ≡ [] → read s .start ≡ length s
+  pub follows : (s : List ℕ) → read s .check ≡ SettingsCheck.Accepted → drop (read s .start) s ≡ fromLine sheetLines s
+  pub back : (s : List ℕ) (i n : ℕ) → 0 < n → FirstCauseAt s i n → handed s ≡ firstLine (fromLine i s)
+  pub rest : (s : List ℕ) → read s .check ≡ SettingsCheck.Accepted → handed s ≡ fromLine sheetLines s

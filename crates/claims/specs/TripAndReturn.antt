@@ -51,26 +51,50 @@ pub record Next (st : Settings) (cs : List Call) (c : Call) : Type 0 where
   pub lends : LendsUnder st c
   pub accepted : callAccepted c ≡ true
 
+-- the last report is the one that the accepted samples alone give, or the fresh board's where there are none
+abbrev pub Shows : Equipment → Program → Settings → Type 0
+Shows e p st = (cs : List Call) → Under st cs → runOf p cs .report ≡ reportOf (historyReport e st (acceptedSamples cs))
+
+-- an accepted sample is answered, with the report that the accepted samples alone give
+abbrev pub Answers : Equipment → Program → Settings → Type 0
+Answers e p st =
+    (cs : List Call) (c : Call) → Next st cs c → answerTo p cs c ≡ Answer.Reported (reportOf (historyReport e st (c .slice ∷ acceptedSamples cs)))
+
+-- a call is refused by the number of its first cause, and only then
+abbrev pub Refuses : Program → Settings → Type 0
+Refuses p st =
+    (cs : List Call) (c : Call) → Under st cs
+    → answerNumber (answerTo p cs c) ≡ first (settingsCauses (c .settings) ++ sampleCauses (c .slice))
+
+-- the record is the one that the accepted samples give
+abbrev pub Keeps : Equipment → Program → Settings → Type 0
+Keeps e p st = (cs : List Call) → Under st cs → runOf p cs .board ≡ recordOf e st (acceptedSamples cs)
+
+-- in service, it trips at a step exactly when permission is off or some limit has been broken for its whole clearing time, ending there
+abbrev pub Trips : Equipment → Program → Settings → Type 0
+Trips e p st =
+    (cs : List Call) (c : Call) → Next st cs c → inService (statusBefore p cs) ≡ true
+    → (statusNow p cs c ≡ 0) ↔ ((permitted (c .slice) ≡ false) ⊎ RanOut e st (c .slice ∷ acceptedSamples cs))
+
+-- tripped, it returns exactly when its full wait has just been in range with permission on
+abbrev pub Returns : Equipment → Program → Settings → Type 0
+Returns e p st =
+    (cs : List Call) (c : Call) → Next st cs c → statusBefore p cs ≡ 0
+    → (inService (statusNow p cs c) ≡ true) ↔ WaitFull e st (c .slice ∷ acceptedSamples cs)
+
+-- a return is always in the continuous operation region
+abbrev pub ReturnsContinuous : Equipment → Program → Settings → Type 0
+ReturnsContinuous e p st =
+    (cs : List Call) (c : Call) → Next st cs c → statusBefore p cs ≡ 0 → inService (statusNow p cs c) ≡ true → regionOf e (c .slice) ≡ Continuous
+
 pub record TripAndReturn (e : Equipment) (p : Program) (st : Settings) : Type 0 where
-  -- the last report is the one that the accepted samples alone give, or the fresh board's where there are none
-  pub shows : (cs : List Call) → Under st cs → runOf p cs .report ≡ reportOf (historyReport e st (acceptedSamples cs))
-  -- an accepted sample is answered, with the report that the accepted samples alone give
-  pub answers : (cs : List Call) (c : Call) → Next st cs c
-      → answerTo p cs c ≡ Answer.Reported (reportOf (historyReport e st (c .slice ∷ acceptedSamples cs)))
-  -- a call is refused by the number of its first cause, and only then
-  pub refuses : (cs : List Call) (c : Call) → Under st cs
-      → answerNumber (answerTo p cs c) ≡ first (settingsCauses (c .settings) ++ sampleCauses (c .slice))
-  -- the record is the one that they give
-  pub keeps : (cs : List Call) → Under st cs → runOf p cs .board ≡ recordOf e st (acceptedSamples cs)
-  -- in service, it trips at a step exactly when permission is off or some limit has been broken for its whole clearing time, ending there
-  pub trips : (cs : List Call) (c : Call) → Next st cs c → inService (statusBefore p cs) ≡ true
-      → (statusNow p cs c ≡ 0) ↔ ((permitted (c .slice) ≡ false) ⊎ RanOut e st (c .slice ∷ acceptedSamples cs))
-  -- tripped, it returns exactly when its full wait has just been in range with permission on
-  pub returns : (cs : List Call) (c : Call) → Next st cs c → statusBefore p cs ≡ 0
-      → (inService (statusNow p cs c) ≡ true) ↔ WaitFull e st (c .slice ∷ acceptedSamples cs)
-  -- a return is always in the continuous operation region
-  pub returns-continuous : (cs : List Call) (c : Call) → Next st cs c → statusBefore p cs ≡ 0 → inService (statusNow p cs c) ≡ true
-      → regionOf e (c .slice) ≡ Continuous
+  pub shows : Shows e p st
+  pub answers : Answers e p st
+  pub refuses : Refuses p st
+  pub keeps : Keeps e p st
+  pub trips : Trips e p st
+  pub returns : Returns e p st
+  pub returns-continuous : ReturnsContinuous e p st
 
 -- the counter rule, for an arbitrary rule: its counter is full exactly when what it counts held at each of the last samples of its whole
 -- time, ending at the newest; and one sample more counts as spec 6.1 says

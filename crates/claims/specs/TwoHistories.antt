@@ -8,7 +8,6 @@ use Prim.Native.Nat.{ℕ, _≤_}
 use lib.ListN.{length, take}
 use Rattle.rules.specs.Settings.{settingsAccepted}
 use Rattle.rules.specs.Samples.{Slice, Equipment, sampleAccepted}
-use Rattle.rules.specs.Reports.{Items}
 use Rattle.rules.specs.History.{History, followedBy, historyReport}
 use Rattle.rules.specs.Images.{imageLength, savedInto}
 use Rattle.rules.specs.declared.Settings.{Settings}
@@ -19,9 +18,9 @@ abbrev pub AllAccepted : List Slice → Type 0
 AllAccepted [] = Unit {0}
 AllAccepted (x ∷ xs) = (sampleAccepted x ≡ true) × AllAccepted xs
 
--- spec 12.5: every common run
--- Items are compared, not the packed report: there are always nine bits, so the two agree.
-abbrev pub AgreeBy : (History → Items) → History → History → Type 0
+-- spec 12.5: every common run; `report` is what is compared. With items it is the same as with packed reports: `ReportsAreItems` of the
+-- crate `demands`.
+abbrev pub AgreeBy : {R : Type 0} → (History → R) → History → History → Type 0
 AgreeBy report h g =
     (run : List Slice) → length run ≤ 100000 → AllAccepted run → report (followedBy h run) ≡ report (followedBy g run)
 
@@ -31,14 +30,14 @@ Agree e st h g = AgreeBy (historyReport e st) h g
 
 -- the images saved after two lists of calls, each into a buffer that 9 lets pass, are equal byte for byte exactly when the reports are
 -- equal, now and after every common run. The saving and the report are parameters, so that others can be held against it.
-abbrev pub TwoHistoriesBy : (Board → List ℕ → List ℕ) → (Settings → History → Items) → Program → Settings → Type 0
+abbrev pub TwoHistoriesBy : {R : Type 0} → (Board → List ℕ → List ℕ) → (Settings → History → R) → Program → Settings → Type 0
 TwoHistoriesBy saved report p st =
     (ps qs : List Call) → Under st ps → Under st qs
     → (a b : List ℕ) → imageLength ≤ length a → imageLength ≤ length b
     → (take imageLength (saved (runOf p ps .board) a) ≡ take imageLength (saved (runOf p qs .board) b)) ↔ AgreeBy (report st) (acceptedSamples ps)
     (acceptedSamples qs)
 
-abbrev pub Demand3By : (Board → List ℕ → List ℕ) → (Settings → History → Items) → Program → Type 0
+abbrev pub Demand3By : {R : Type 0} → (Board → List ℕ → List ℕ) → (Settings → History → R) → Program → Type 0
 Demand3By saved report p = (st : Settings) → settingsAccepted st ≡ true → TwoHistoriesBy saved report p st
 
 -- demand 3, of a board program: by the saving of spec 9 and the reports that histories give, under every accepted sheet

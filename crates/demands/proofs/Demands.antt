@@ -4,11 +4,14 @@ use native.Mathlib.Omega.{arith}
 use Rattle.rules.specs.Regions.{ourEquipment}
 use Rattle.rules.specs.Sheets.{readSheet}
 use Rattle.rules.specs.Curves.{curve}
+use Rattle.rules.specs.Images.{savedInto}
 use Rattle.roots.proofs.Voltages.{voltage-root}
 use Rattle.laws.proofs.FirstCause.{refuses-rightly}
 use Rattle.laws.proofs.SheetCauses.{sheets-refused-rightly}
-use Rattle.laws.proofs.Demand2.{demand2, counter-rule}
+use Rattle.laws.proofs.Demand2.{demand2, reports-trip, counter-rule}
 use Rattle.laws.proofs.Demand3.{demand3}
+use Rattle.laws.proofs.Bits.{bits-unpacked, reports-items, two-histories-reported}
+use Rattle.laws.proofs.LentRecords.{reads-records}
 use Rattle.laws.proofs.Alike.{step-alike}
 use Rattle.laws.proofs.Curves.{var-rises, watt-rises}
 use Rattle.laws.proofs.OneCurve.{one-curve}
@@ -20,17 +23,25 @@ use Rattle.formats.proofs.Forms.{forms-read}
 use Rattle.formats.proofs.SampleLines.{samples-answered, one-answer}
 use Rattle.formats.proofs.Samples.{sample-reads-back, sample-written-out}
 use Rattle.program.proofs.Sessions.{transcript-law}
-use Rattle.demands.specs.Demands.{OurRefusals, OurSheetRefusals, OurTranscript, OurTripAndReturn, OurTwoHistories, SheetsReadBack, SheetsWrittenOut}
+use Rattle.demands.specs.Demands.{ours, OurRefusals, OurSheetRefusals, OurTranscript, OurTripAndReturn, OurTwoHistories, SheetsReadBack, SheetsWrittenOut}
 use Rattle.demands.specs.Demands.{OneSheetReading, DefaultSheetWritten, UnderAcceptedTexts, LinesOfForms, SampleLinesAnswered, OneSampleAnswer}
 use Rattle.demands.specs.Demands.{AcceptedSamplesWritable, SampleLinesReadBack, SampleLinesWrittenOut, EveryCounter, SensingRule, EdgeValues}
 use Rattle.demands.specs.Demands.{ShamsCaught, ShamImagesCaught, ShamReadingsCaught, AnyTripAndReturn, AnyTwoHistories, OurEquipmentSound}
-use Rattle.demands.specs.Demands.{AlikeEquipmentStepsAlike, PowerLaws}
+use Rattle.demands.specs.Demands.{PowerLaws}
+use Rattle.demands.specs.Demands.{AlikeEquipmentStepsAlike, OurPrinted, OnePrinting, SamplesOnLines, BitsUnpacked, ReportsAreItems}
+use Rattle.demands.specs.Demands.{OurTwoHistoriesReported}
+use Rattle.demands.specs.Demands.{OurLentRecords, LentValues, RightReportsTrip, ShamRefusalsCaught, ShamReportsCaught}
 use Rattle.demands.proofs.Edges.{edges-hold}
+use Rattle.demands.proofs.Lent.{lent-read}
+use Rattle.demands.proofs.Printed.{prints-by-history, one-printing, samples-on-lines}
 use Rattle.demands.proofs.Writable.{accepted-writable}
 use Rattle.demands.proofs.Sound.{our-equipment-sound}
-use Rattle.demands.proofs.Shams.{quick-accepted, waiting-accepted, early, invented, tripped, repeated, kept, refusing, no-ramp, no-ninth, no-bits}
+use Rattle.demands.proofs.Shams.{quick-accepted, waiting-accepted, early, invented, tripped, repeated, kept, refusing, as-lent}
+use Rattle.demands.proofs.Shams.{no-ramp, no-ninth, no-bits}
+use Rattle.demands.proofs.ShamStatus.{only-reports, only-trips, only-returns}
 use Rattle.demands.proofs.ShamReadings.{turned-away, let-in}
 use Rattle.demands.proofs.ShamLines.{no-large, no-unended, no-return}
+use Rattle.demands.proofs.ShamRefusals.{last-code, reading-stored, sample-first, written-short, good-sheet, from-zero, rest-handed}
 
 pub ourRefusals : OurRefusals
 ourRefusals = refuses-rightly ourEquipment
@@ -82,6 +93,33 @@ sampleLinesReadBack = sample-reads-back
 pub sampleLinesWrittenOut : SampleLinesWrittenOut
 sampleLinesWrittenOut = sample-written-out
 
+pub ourPrinted : OurPrinted
+ourPrinted = prints-by-history ourEquipment
+
+pub onePrinting : OnePrinting
+onePrinting = one-printing ourEquipment
+
+pub samplesOnLines : SamplesOnLines
+samplesOnLines = samples-on-lines
+
+pub bitsUnpacked : BitsUnpacked
+bitsUnpacked = bits-unpacked
+
+pub reportsAreItems : ReportsAreItems
+reportsAreItems = reports-items
+
+pub ourTwoHistoriesReported : OurTwoHistoriesReported
+ourTwoHistoriesReported st ok = two-histories-reported savedInto ourEquipment ours st (ourTwoHistories st ok)
+
+pub ourLentRecords : OurLentRecords
+ourLentRecords = reads-records ourEquipment
+
+pub lentValues : LentValues
+lentValues = lent-read
+
+pub rightReportsTrip : RightReportsTrip
+rightReportsTrip e p st right answered = reports-trip e st p right answered
+
 pub everyCounter : EveryCounter
 everyCounter = counter-rule
 
@@ -103,13 +141,38 @@ pub edgeValues : EdgeValues
 edgeValues = edges-hold
 
 pub shamsCaught : ShamsCaught
-shamsCaught = record { accepted = quick-accepted; early = early; invented = invented; tripped = tripped; repeated = repeated; kept = kept; refusing = refusing }
+shamsCaught =
+    record {
+      accepted = quick-accepted;
+      early = early;
+      invented = invented;
+      tripped = tripped;
+      repeated = repeated;
+      kept = kept;
+      refusing = refusing;
+    }
+
+pub shamReportsCaught : ShamReportsCaught
+shamReportsCaught = record { bits = only-reports; trips = only-trips; returns = only-returns }
+
+pub shamRefusalsCaught : ShamRefusalsCaught
+shamRefusalsCaught =
+    record {
+      sample = last-code;
+      changed = reading-stored;
+      order = sample-first;
+      written = written-short;
+      sheet = good-sheet;
+      line = from-zero;
+      part = rest-handed;
+    }
 
 pub shamImagesCaught : ShamImagesCaught
 shamImagesCaught = record { accepted = (quick-accepted, waiting-accepted); ramp = no-ramp; ninth = no-ninth; bits = no-bits }
 
 pub shamReadingsCaught : ShamReadingsCaught
-shamReadingsCaught = record { turnedAway = turned-away; unended = let-in; large = no-large; unendedSample = no-unended; carriageReturn = no-return }
+shamReadingsCaught =
+    record { turnedAway = turned-away; unended = let-in; large = no-large; unendedSample = no-unended; carriageReturn = no-return; asLent = as-lent }
 
 pub anyTripAndReturn : AnyTripAndReturn
 anyTripAndReturn e sound = demand2 e sound

@@ -1,8 +1,12 @@
 pub mod Edges
+pub mod Lent
 pub mod Sound
 pub mod ShamReport
 pub mod Shams
+pub mod ShamStatus
 pub mod Writable
 pub mod ShamReadings
 pub mod ShamLines
+pub mod ShamRefusals
+pub mod Printed
 pub mod Demands

@@ -19,7 +19,7 @@ use Rattle.formats.specs.Sheets.{writtenLines, writtenSheet, Complete, ReadsShe
 use Rattle.formats.proofs.Sheets.{sheet-read-back}
 use Rattle.demands.specs.Shams.{exampleSheet, refusesNoWait, takesUnended}
 
-abbrev quick : Settings
+abbrev pub quick : Settings
 quick = exampleSheet 0
 
 complete : Complete quick
@@ -29,17 +29,17 @@ accepted : settingsAccepted quick ≡ true
 unfolding all rows inRow rising checkFrom linesOf settingsCheck
 accepted = refl
 
-abbrev reading : SheetReading
+abbrev pub reading : SheetReading
 reading = record { check = SettingsCheck.Accepted; settings = quick; start = length (writtenSheet quick) }
 
-ours : readSheet (writtenSheet quick) ≡ reading
-ours = ap readSheet (sym (append-nil (writtenSheet quick))) ∙ sheet-read-back quick [] complete accepted
+pub quick-read : readSheet (writtenSheet quick) ≡ reading
+quick-read = ap readSheet (sym (append-nil (writtenSheet quick))) ∙ sheet-read-back quick [] complete accepted
 
 -- the example of spec 10.11 has a wait of 0
 pub turned-away : ¬ ReadsSheetsBack refusesNoWait
 unfolding refusesNoWait
 turned-away d =
-    let e : refusedAt Range 11 0 ≡ reading = rw (append-nil (writtenSheet quick), ours) at (d quick [] complete accepted) in
+    let e : refusedAt Range 11 0 ≡ reading = rw (append-nil (writtenSheet quick), quick-read) at (d quick [] complete accepted) in
     let check : SettingsCheck.Refused Range 11 ≡ SettingsCheck.Accepted = ap (λ (r : SheetReading). r .check) e in
     let z : _≡_ {A = ℕ} 0 1 = cc in
     omega arith
@@ -55,7 +55,7 @@ ended = refl
 pub let-in : ¬ AcceptsSheetsOnly takesUnended
 unfolding takesUnended
 let-in d =
-    let read : readSheet (short ++ (feed ∷ [])) ≡ reading = ap readSheet ended ∙ ours in
+    let read : readSheet (short ++ (feed ∷ [])) ≡ reading = ap readSheet ended ∙ quick-read in
     let b = d short (ap (λ (r : SheetReading). r .check) read) in
     let text : short ≡ writtenSheet quick ++ drop (length (writtenSheet quick)) short = rw read at (b .text) in
     let rest = drop (length (writtenSheet quick)) short in

@@ -20,6 +20,7 @@ use Rattle.rules.specs.declared.Settings.{Settings}
 use Rattle.claims.specs.TwoHistories.{AgreeBy}
 use Rattle.laws.proofs.Limits.{LevelIn, LimitsIn, limits-in}
 use Rattle.laws.proofs.InRange.{breaks-none}
+use Rattle.laws.proofs.Trace.{same-items}
 use Rattle.demands.specs.Shams.{reportWithoutBits}
 
 -- a sample put before all others
@@ -151,10 +152,6 @@ run-under : (x : Slice) (run : List Slice) (h : History) → followedBy (under h
 run-under x [] h = refl
 run-under x (y ∷ run) h = run-under x run (y ∷ h)
 
-same-items : {s s′ : ℕ} {b : List Bool} {q q′ w w′ : ℕ} {v v′ : ℤ} → s ≡ s′ → q ≡ q′ → w ≡ w′ → v ≡ v′
-    → _≡_ {A = Items} (record { status = s; bits = b; share = q; watts = w; vars = v }) (record { status = s′; bits = b; share = q′; watts = w′; vars = v′ })
-same-items p q w v = rw (p, q, w, v)
-
 -- a sample out of range, alone or not there at all: without bits the reports agree for ever
 pub agree-without-bits : (st : Settings) → settingsAccepted st ≡ true → (x : Slice) → inRange ourEquipment st x ≡ false → AgreeBy (reportWithoutBits st) [] (x ∷ [])
 unfolding reportWithoutBits historyReport
@@ -163,5 +160,5 @@ agree-without-bits st ok x out run l a =
   where
     same : (h : History) → reportWithoutBits st h ≡ reportWithoutBits st (under h x)
     same h =
-        same-items (sym (status-under ourEquipment st ok x out h)) (sym (share-under ourEquipment st ok x out h))
+        same-items (sym (status-under ourEquipment st ok x out h)) refl (sym (share-under ourEquipment st ok x out h))
         (sym (watts-under ourEquipment st ok x out h)) (sym (vars-under ourEquipment st ok x out h))

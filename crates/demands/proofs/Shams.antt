@@ -6,6 +6,7 @@ use mathlib.Core.Logic.{inl}
 use mathlib.Core.List.{List, [], _∷_}
 use Prim.Native.Nat.{ℕ}
 use native.Mathlib.Omega.{arith}
+use lib.IntN.{pos}
 use lib.ListN.{getD, replicate}
 use Rattle.rules.specs.Tests.{all, any, within}
 use Rattle.rules.specs.Sensing.{largest, voltage}
@@ -22,12 +23,14 @@ use Rattle.rules.specs.History.{streak, serving, climbed, historyStatus, histor
 use Rattle.rules.specs.declared.Settings.{Settings}
 use Rattle.rules.specs.declared.Board.{Board}
 use Rattle.rules.specs.declared.Report.{Report}
+use Rattle.rules.specs.declared.Stepped.{Stepped}
 use Rattle.claims.specs.Calls.{Call, ruledBy}
 use Rattle.rules.specs.Refusals.{answerNumber}
 use Rattle.claims.specs.TripAndReturn.{recordOf, TripAndReturn}
+use Rattle.claims.specs.LentRecords.{ReadsRecords}
 use Rattle.claims.specs.TwoHistories.{TwoHistoriesBy}
-use Rattle.demands.specs.Shams.{exampleSheet, tripsEarly, inventsCounters, alwaysTripped, repeatsFirst, keepsRecord, turnsAway, savedWithoutRamp}
-use Rattle.demands.specs.Shams.{savedWithoutNinth, reportWithoutBits}
+use Rattle.demands.specs.Shams.{exampleSheet, tripsEarly, inventsCounters, alwaysTripped, repeatsFirst, keepsRecord, turnsAway, takesAsLent}
+use Rattle.demands.specs.Shams.{savedWithoutRamp, savedWithoutNinth, reportWithoutBits}
 use Rattle.demands.proofs.ShamReport.{agree-without-bits}
 
 abbrev quick : Settings
@@ -87,6 +90,14 @@ pub refusing : ¬ TripAndReturn ourEquipment turnsAway quick
 unfolding turnsAway all any within largest voltage rows inRow rising checkFrom linesOf settingsCheck sampleCheck broken inRange voltageRegion frequencyRegion regionOf curveFrom curve nameplate varsOf wattsOf reportOf fresh each readAs settled ruled next shown stepOf streak serving climbed historyStatus historyShare historyWatts historyVars historyReport
 refusing d =
     let e : _≡_ {A = ℕ} 4 0 = ap answerNumber (d .answers (calm ∷ []) calm (record { under = (inl refl, tt); lends = inl refl; accepted = refl })) in
+    omega arith
+
+-- in service with a ramp count one above the ramp length, in mandatory operation, where the count stays
+pub as-lent : ¬ ReadsRecords ourEquipment takesAsLent
+unfolding takesAsLent all any within largest voltage rows inRow rising checkFrom linesOf settingsCheck sampleCheck broken inRange voltageRegion frequencyRegion regionOf curveFrom curve nameplate varsOf wattsOf reportOf fresh each readAs settled ruled next shown stepOf
+as-lent d =
+    let b : Board = record { status = 3; counters = replicate 9 0; ramp = 101; watts = 0; vars = pos 0 } in
+    let e : _≡_ {A = ℕ} 101 100 = ap (λ (t : Stepped). t .board .ramp) (d .steps b (calls 62001 1) refl) in
     omega arith
 
 -- ---- sham images

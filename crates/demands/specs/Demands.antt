@@ -13,7 +13,9 @@
 -- Assumes nothing.
 use mathlib.Core.Path.{_≡_}
 use mathlib.Core.Bool.{true}
+use mathlib.Core.Logic.{_↔_}
 use mathlib.Core.List.{List, _∷_}
+use mathlib.Core.Option.{some}
 use Prim.Native.Nat.{ℕ, _*_, _≤_, _<_}
 use lib.ListN.{length}
 use lib.IntN.{ℤ, natAbs}
@@ -24,12 +26,13 @@ use Rattle.rules.specs.Counters.{Rule}
 use Rattle.rules.specs.Curves.{curve, nameplate}
 use Rattle.rules.specs.Regions.{ourEquipment}
 use Rattle.rules.specs.Records.{stepOf}
-use Rattle.rules.specs.History.{historyReport}
+use Rattle.rules.specs.Reports.{reportOf}
+use Rattle.rules.specs.History.{History, historyReport}
 use Rattle.rules.specs.Images.{savedInto}
 use Rattle.rules.specs.Forms.{numbersOf}
-use Rattle.rules.specs.Sheets.{SheetReading, readSheet}
+use Rattle.rules.specs.Sheets.{SheetReading, readSheet, handedBack}
 use Rattle.rules.specs.Defaults.{defaultSheet, defaultSettings}
-use Rattle.rules.specs.Transcripts.{Line, ended, linesIn, lineStep}
+use Rattle.rules.specs.Transcripts.{Line, ended, linesIn, lineStep, transcript}
 use Rattle.rules.specs.declared.Point.{Point}
 use Rattle.rules.specs.declared.Settings.{Settings}
 use Rattle.rules.specs.declared.Board.{Board}
@@ -39,35 +42,46 @@ use Rattle.formats.specs.Marks.{ReadsForms}
 use Rattle.formats.specs.Samples.{writable, writtenSample, Answering, AnswersSamples, ReadsBack, BeginsWithSample}
 use Rattle.roots.specs.Root.{IsRoot}
 use Rattle.program.specs.Sessions.{TranscriptLaw}
-use Rattle.claims.specs.Calls.{Program, ruledBy}
+use Rattle.claims.specs.Calls.{Program, ruledBy, Operations, operationsBy}
 use Rattle.claims.specs.Sound.{Sound}
 use Rattle.claims.specs.Alike.{Alike}
 use Rattle.claims.specs.Powers.{LargestBeside, RisingPoints, FollowsPoints}
 use Rattle.claims.specs.FirstCause.{RefusesRightly}
 use Rattle.claims.specs.SheetCauses.{SheetsRefusedRightly}
-use Rattle.claims.specs.TripAndReturn.{TripAndReturn, CounterRule, Demand2}
-use Rattle.claims.specs.TwoHistories.{TwoHistoriesBy, Demand3}
+use Rattle.claims.specs.TripAndReturn.{Shows, Answers, Refuses, Keeps, Trips, Returns, ReturnsContinuous, TripAndReturn, CounterRule}
+use Rattle.claims.specs.TripAndReturn.{Demand2}
+use Rattle.claims.specs.TwoHistories.{TwoHistoriesBy, Demand3By, Demand3}
+use Rattle.claims.specs.Bits.{UnpacksBits}
+use Rattle.claims.specs.LentRecords.{ReadsRecords}
+use Rattle.claims.specs.Printed.{sampleOn, readPart, PrintsByHistory}
 use Rattle.demands.specs.Edges.{EdgesHold}
-use Rattle.demands.specs.Shams.{exampleSheet, tripsEarly, inventsCounters, alwaysTripped, repeatsFirst, keepsRecord, turnsAway, savedWithoutRamp}
-use Rattle.demands.specs.Shams.{savedWithoutNinth, reportWithoutBits, refusesNoWait, takesUnended, largeNoNumber, stepsUnended, stepsPastReturn}
+use Rattle.demands.specs.Lent.{LentRead}
+use Rattle.demands.specs.Shams.{exampleSheet, tripsEarly, inventsCounters, alwaysTripped, repeatsFirst, keepsRecord, turnsAway}
+use Rattle.demands.specs.Shams.{inventsBits, hidesTrips, saysTripped, savedWithoutRamp, savedWithoutNinth, reportWithoutBits, refusesNoWait}
+use Rattle.demands.specs.Shams.{takesAsLent, takesUnended, largeNoNumber, stepsUnended, stepsPastReturn}
+use Rattle.demands.specs.ShamRefusals.{refusesLastCode, storesReading, sampleFirst, writesWhatFits, linesFromZero, handsRest}
 
 abbrev pub ours : Program
 ours = ruledBy ourEquipment
 
+abbrev pub ourOperations : Operations
+ourOperations = operationsBy ourEquipment
+
 -- ---- the three demands
 
--- Demand 1, for the library: `RefusesRightly` in claims/specs/FirstCause.antt. Checking settings, sensing, the step and the saving refuse with n
--- exactly when n is the first cause in the order of spec 11.2, accept input with none of the causes, and a refusal leaves the record's
--- fields and every byte of a lent slice or buffer as they were. (That the operations stay inside their buffers and their arithmetic and
--- end is part of each function's own proof.)
+-- Demand 1, for the library: `RefusesRightly` in claims/specs/FirstCause.antt, of our operations. Checking settings, sensing, the step and the
+-- saving refuse with n exactly when n is the first cause in the order of spec 11.2, accept input with none of the causes, and a refusal leaves
+-- the record's fields and every byte of a lent slice or buffer as they were. (That the operations stay inside their buffers and their
+-- arithmetic and end is part of each function's own proof.)
 abbrev pub OurRefusals : Type 0
-OurRefusals = RefusesRightly ourEquipment
+OurRefusals = RefusesRightly ourOperations
 
--- Demand 1, for reading a sheet: `SheetsRefusedRightly` in claims/specs/SheetCauses.antt. Any text is refused with n at a line exactly when that is the
--- first line with a cause and n the first of its causes 1, 2, 3, and accepted exactly when none of the thirteen lines has a cause; what is
--- handed back is that line of the text, at its place there, a missing one at the end, or what follows an accepted sheet.
+-- Demand 1, for reading a sheet: `SheetsRefusedRightly` in claims/specs/SheetCauses.antt, of our reading and of what it hands back. Any text is
+-- refused with n at a line exactly when that is the first line with a cause and n the first of its causes 1, 2, 3, and accepted exactly when none
+-- of the thirteen lines has a cause; what is handed back is that line of the text, at its place there, a missing one at the end, or what
+-- follows an accepted sheet.
 abbrev pub OurSheetRefusals : Type 0
-OurSheetRefusals = SheetsRefusedRightly
+OurSheetRefusals = SheetsRefusedRightly readSheet handedBack
 
 -- Demand 1, for the program: `TranscriptLaw` in program/specs/Sessions.antt. However an input is cut into blocks, and whatever buffers are lent,
 -- what `respond` writes, put together, is the transcript of the input's first 10^12 bytes (rules/specs/Transcripts.antt): a sheet's first
@@ -154,7 +168,61 @@ abbrev pub SampleLinesWrittenOut : Type 0
 SampleLinesWrittenOut =
     (s : List ℕ) (x : Slice) (lines : List Line) → linesIn s ≡ ended (writtenSample x) ∷ lines → BeginsWithSample s x lines
 
+-- ---- demand 2 of what is printed
+
+-- `PrintsByHistory` in claims/specs/Printed.antt. For every input with an accepted sheet, in its first 10^12 bytes, the transcript is an answer for each
+-- line after the sheet, one after the other. A line that is an accepted sample has the report line of what it and the accepted samples before
+-- it, on whichever lines, alone give; any other line has the refusal line with its first cause and its number, and is no step. So
+-- of the status words that are printed: after a report that says another word than `tripped`, the next report says `tripped` exactly when
+-- permission is off or a limit was broken at each of the last samples of its whole clearing time; after one that says `tripped`, or none, the next says
+-- another word exactly when each of the last samples of the full wait was in range with permission on.
+abbrev pub OurPrinted : Type 0
+OurPrinted = PrintsByHistory ourEquipment (transcript ourEquipment)
+
+-- So there is no choice in what is printed: every program with this property prints, where the sheet is accepted, what ours does.
+abbrev pub OnePrinting : Type 0
+OnePrinting =
+    (print : List ℕ → List ℕ) → PrintsByHistory ourEquipment print
+    → (input : List ℕ) → readSheet (readPart input) .check ≡ SettingsCheck.Accepted → print input ≡ transcript ourEquipment input
+
+-- A line's sample there (`sampleOn`) is x exactly when the line is x written out and ended, x having seven numbers of at most six digits.
+abbrev pub SamplesOnLines : Type 0
+SamplesOnLines = (l : Line) (x : Slice) → (sampleOn l ≡ some x) ↔ ((writable x ≡ true) × (l ≡ ended (writtenSample x)))
+
+-- ---- the bits of a report
+
+-- `UnpacksBits` in claims/specs/Bits.antt. The bits of a report make one number; none is lost: as many bits that make the same number are the same,
+-- the nine digits that are printed are the nine bits in their order, and the number's bit at place 8 - i is bit i.
+abbrev pub BitsUnpacked : Type 0
+BitsUnpacked = UnpacksBits
+
+-- So two histories' reports, with their bits packed, are equal exactly when all their items are.
+abbrev pub ReportsAreItems : Type 0
+ReportsAreItems =
+    (e : Equipment) (st : Settings) (h g : History)
+    → (reportOf (historyReport e st h) ≡ reportOf (historyReport e st g)) ↔ (historyReport e st h ≡ historyReport e st g)
+
+-- And demand 3 holds with the reports as they are given, in place of their items.
+abbrev pub OurTwoHistoriesReported : Type 0
+OurTwoHistoriesReported = Demand3By savedInto (λ st h. reportOf (historyReport ourEquipment st h)) ours
+
+-- ---- how a lent record is read
+
+-- `ReadsRecords` in claims/specs/LentRecords.antt. An accepted call on a lent record answers and leaves what it does on the record as that is read
+-- (`readAs` in rules/specs/Records.antt); a refused one leaves it as it was lent. Reading twice is reading once, and a record that calls have left,
+-- from a fresh board on, is read as it is.
+abbrev pub OurLentRecords : Type 0
+OurLentRecords = ReadsRecords ourEquipment ours
+
+-- The rows of spec 5.4 as values, one table: specs/Lent.antt.
+abbrev pub LentValues : Type 0
+LentValues = LentRead
+
 -- ---- beside them
+
+-- Of any program: where its reports and answers are right, its trips and returns are.
+abbrev pub RightReportsTrip : Type 0
+RightReportsTrip = (e : Equipment) (p : Program) (st : Settings) → Shows e p st → Answers e p st → Trips e p st × Returns e p st
 
 -- The counter rule, for an arbitrary limit: `CounterRule` in claims/specs/TripAndReturn.antt.
 abbrev pub EveryCounter : Type 0
@@ -194,6 +262,19 @@ pub record ShamsCaught : Type 0 where
   pub kept : ¬ TripAndReturn ourEquipment keepsRecord (exampleSheet 0)
   pub refusing : ¬ TripAndReturn ourEquipment turnsAway (exampleSheet 0)
 
+-- Three shams keep the record and refuse as they should, and show other reports. The first turns every bit over, and fails by its reports alone. The
+-- second says `entering` at the step at which it trips, the third always says `tripped`: of the parts of demand 2 that do not compare whole
+-- reports the second fails the trip and no other, the third the return and no other. (None can fail the trip or the return alone: a
+-- program whose reports are right trips and returns as it should, `RightReportsTrip`.)
+pub record ShamReportsCaught : Type 0 where
+  pub bits : (¬ Shows ourEquipment inventsBits (exampleSheet 0)) × Refuses inventsBits (exampleSheet 0) × Keeps ourEquipment inventsBits (exampleSheet 0)
+      × Trips ourEquipment inventsBits (exampleSheet 0) × Returns ourEquipment inventsBits (exampleSheet 0)
+      × ReturnsContinuous ourEquipment inventsBits (exampleSheet 0)
+  pub trips : (¬ Trips ourEquipment hidesTrips (exampleSheet 0)) × Refuses hidesTrips (exampleSheet 0) × Keeps ourEquipment hidesTrips (exampleSheet 0)
+      × Returns ourEquipment hidesTrips (exampleSheet 0) × ReturnsContinuous ourEquipment hidesTrips (exampleSheet 0)
+  pub returns : (¬ Returns ourEquipment saysTripped (exampleSheet 0)) × Refuses saysTripped (exampleSheet 0) × Keeps ourEquipment saysTripped (exampleSheet 0)
+      × Trips ourEquipment saysTripped (exampleSheet 0) × ReturnsContinuous ourEquipment saysTripped (exampleSheet 0)
+
 -- Demand 3 is false of an image with 0 in the ramp count's place and of one with 0 in the ninth counter's: equal images, different later
 -- reports; and of a report whose bits are always 0: equal reports, different images. Each on an example sheet, which is accepted.
 pub record ShamImagesCaught : Type 0 where
@@ -202,15 +283,29 @@ pub record ShamImagesCaught : Type 0 where
   pub ninth : ¬ TwoHistoriesBy savedWithoutNinth (historyReport ourEquipment) ours (exampleSheet 2)
   pub bits : ¬ TwoHistoriesBy savedInto reportWithoutBits ours (exampleSheet 0)
 
+-- Demand 1 is false of operations that refuse a good sample and leave the record; that refuse as they should and change the record; that look at
+-- the sample before the settings; and that write into a buffer which they refuse. It is false of a reading that turns away a good sheet, and of
+-- one that refuses as it should with another line, whatever they hand back; and of our reading with another part handed back.
+pub record ShamRefusalsCaught : Type 0 where
+  pub sample : ¬ RefusesRightly refusesLastCode
+  pub changed : ¬ RefusesRightly storesReading
+  pub order : ¬ RefusesRightly sampleFirst
+  pub written : ¬ RefusesRightly writesWhatFits
+  pub sheet : (handed : List ℕ → List ℕ) → ¬ SheetsRefusedRightly refusesNoWait handed
+  pub line : (handed : List ℕ → List ℕ) → ¬ SheetsRefusedRightly linesFromZero handed
+  pub part : ¬ SheetsRefusedRightly readSheet handsRest
+
 -- A reading that refuses a wait of 0 turns away the sheet of spec 10.11, and one that takes a sheet whose last line is unended
 -- accepts more than sheets. One that finds no form in a line with a number above 100000 would give 1 in place of 2. Answers that step on an
--- unended sample line, or on one with a carriage return before its line feed, take more than samples.
+-- unended sample line, or on one with a carriage return before its line feed, take more than samples. A board that takes a lent record as it stands
+-- does not read it.
 pub record ShamReadingsCaught : Type 0 where
   pub turnedAway : ¬ ReadsSheetsBack refusesNoWait
   pub unended : ¬ AcceptsSheetsOnly takesUnended
   pub large : ¬ ReadsForms largeNoNumber
   pub unendedSample : ¬ AnswersSamples stepsUnended
   pub carriageReturn : ¬ AnswersSamples stepsPastReturn
+  pub asLent : ¬ ReadsRecords ourEquipment takesAsLent
 
 -- ---- wider than asked: any sensing table and any voltage regions with the facts of `Sound`, which ours have
 

@@ -1,3 +1,5 @@
 pub mod Edges
 pub mod Shams
+pub mod ShamRefusals
+pub mod Lent
 pub mod Demands

@@ -1,10 +1,10 @@
 -- Spec 13.6: the sham boards that demand 2 must stop; sham images and reports that demand 3 must
--- stop; sham readings of sheets and of lines; and sham answers to sample lines.
+-- stop; sham readings of sheets and of lines; and sham answers to sample lines. Those that demand 1 must stop: ShamRefusals.antt.
 -- Assumes nothing.
 use mathlib.Core.Bool.{Bool, false, cond, _&&_}
 use mathlib.Core.List.{List, [], _∷_, _++_, map}
 use mathlib.Core.Option.{Option, none, some}
-use Prim.Native.Nat.{ℕ, _*_, _/_}
+use Prim.Native.Nat.{ℕ, _-_, _*_, _/_, max}
 use lib.Dec.{eqb, leb}
 use lib.IntN.{ℤ, pos, natAbs, negℤ}
 use lib.ListN.{replicate, set, take}
@@ -18,13 +18,15 @@ use Rattle.rules.specs.Reports.{Items, reportOf}
 use Rattle.rules.specs.History.{History, historyReport}
 use Rattle.rules.specs.Images.{savedInto}
 use Rattle.rules.specs.Service.{inService}
-use Rattle.rules.specs.Records.{fresh, settled, shown, stepOf}
+use Rattle.rules.specs.Refusals.{answerNumber}
+use Rattle.rules.specs.Records.{fresh, settled, ruled, shown, stepOf}
 use Rattle.rules.specs.Transcripts.{Line, ended, unended, lineStep}
 use Rattle.rules.specs.declared.Limit.{Limit}
 use Rattle.rules.specs.declared.Point.{Point}
 use Rattle.rules.specs.declared.Settings.{Settings}
 use Rattle.rules.specs.declared.Board.{Board}
 use Rattle.rules.specs.declared.Refusal.the-variants.{Range, Code}
+use Rattle.rules.specs.declared.Report.{Report}
 use Rattle.rules.specs.declared.Answer.{Answer}
 use Rattle.rules.specs.declared.Stepped.{Stepped}
 use Rattle.formats.specs.Samples.{Answering}
@@ -125,6 +127,58 @@ turnsAway =
           let t = honest b st x in
           record { board = t .board; answer = cond (eqb (b .status) (t .board .status)) (Answer.Refused Code) (t .answer) };
     }
+
+-- takes a lent record as it stands, not as it is read (spec 5.4)
+unfoldable pub takesAsLent : Program
+takesAsLent =
+    record {
+      start = fresh;
+      step = λ b st x.
+          let t = honest b st x in
+          cond (eqb (answerNumber (t .answer)) 0) (reporting st (ruled ourEquipment st x b)) t;
+    }
+
+-- ---- sham boards that keep the record and refuse as they should, and show other reports
+
+-- an answer whose report is another
+abbrev pub reshown : (Report → Report) → Answer → Answer
+reshown f (Answer.Refused cause) = Answer.Refused cause
+reshown f (Answer.Reported r) = Answer.Reported (f r)
+
+-- by what is shown, from: in service before the step, the right report
+abbrev pub showing : (Bool → Report → Report) → Program
+showing f =
+    record {
+      start = fresh;
+      step = λ b st x. let t = honest b st x in record { board = t .board; answer = reshown (f (inService (b .status))) (t .answer) };
+    }
+
+-- every bit turned over
+abbrev pub turnedOver : Bool → Report → Report
+turnedOver was r = record { status = r .status; bits = 511 - r .bits; share = r .share; watts = r .watts; vars = r .vars }
+
+abbrev withStatus : ℕ → Report → Report
+withStatus status r = record { status = status; bits = r .bits; share = r .share; watts = r .watts; vars = r .vars }
+
+-- `entering` where a board that was in service is tripped
+abbrev pub entering : Bool → Report → Report
+entering was r = withStatus (cond was (max 1 (r .status)) (r .status)) r
+
+-- `tripped` always
+abbrev pub tripped : Bool → Report → Report
+tripped was r = withStatus 0 r
+
+-- invents its bits
+unfoldable pub inventsBits : Program
+inventsBits = showing turnedOver
+
+-- hides its trips
+unfoldable pub hidesTrips : Program
+hidesTrips = showing entering
+
+-- says that it is tripped, whatever it does
+unfoldable pub saysTripped : Program
+saysTripped = showing tripped
 
 -- ---- sham images and reports
 

@@ -78,7 +78,7 @@ module _ (e : Equipment) (st : Settings) (b : Board) (x : Slice) where
 
 -- ---- our answers
 
-numbers-same : (x : List ℕ) → map natAbs (map pos x) ≡ x
+pub numbers-same : (x : List ℕ) → map natAbs (map pos x) ≡ x
 numbers-same [] = refl
 numbers-same (n ∷ x) = ap (λ (k : List ℕ). n ∷ k) (numbers-same x)
 

@@ -26,10 +26,11 @@ use Rattle.rules.specs.declared.SettingsCheck.{SettingsCheck}
 use Rattle.rules.specs.declared.SampleCheck.{SampleCheck}
 use Rattle.rules.specs.declared.Answer.{Answer}
 use Rattle.rules.specs.declared.Stepped.{Stepped}
-use Rattle.claims.specs.Calls.{Call, Run, ruledBy, freshReport, lastReport, called, calledAll, runOf, callAccepted, acceptedOne, acceptedAfter}
+use Rattle.claims.specs.Calls.{Call, Run, Program, ruledBy, freshReport, lastReport, called, calledAll, runOf, callAccepted, acceptedOne, acceptedAfter}
 use Rattle.claims.specs.Calls.{acceptedSamples, LendsUnder, Under}
 use Rattle.claims.specs.Sound.{Sound}
-use Rattle.claims.specs.TripAndReturn.{recordOf, Next, TripAndReturn, CounterRule, Demand2}
+use Rattle.claims.specs.TripAndReturn.{recordOf, statusBefore, statusNow, Next, Shows, Answers, Trips, Returns, ReturnsContinuous, TripAndReturn}
+use Rattle.claims.specs.TripAndReturn.{CounterRule, Demand2}
 use Rattle.basics.proofs.Bools.{both}
 use Rattle.laws.proofs.Limits.{LimitsIn, limits-in}
 use Rattle.laws.proofs.Trace.{service-is, status-is, next-is, shown-is}
@@ -126,6 +127,50 @@ module _ (e : Equipment) (st : Settings) where
   tripped-status [] p = refl
   tripped-status (x ∷ h) p = rw p
 
+  -- ---- any program whose statuses are those of the histories trips and returns as it should
+
+  module _ (p : Program)
+      (before : (cs : List Call) → Under st cs → statusBefore p cs ≡ historyStatus e st (acceptedSamples cs))
+      (now : (cs : List Call) (c : Call) → Next st cs c → statusNow p cs c ≡ historyStatus e st (c .slice ∷ acceptedSamples cs)) where
+    tripped-before : (cs : List Call) → Under st cs → statusBefore p cs ≡ 0 → serving e st (acceptedSamples cs) ≡ false
+    tripped-before cs u q = tripped-of (acceptedSamples cs) (sym (before cs u) ∙ q)
+
+    serving-now : (cs : List Call) (c : Call) → Next st cs c → inService (statusNow p cs c) ≡ serving e st (c .slice ∷ acceptedSamples cs)
+    serving-now cs c n = ap inService (now cs c n) ∙ service-of (c .slice ∷ acceptedSamples cs)
+
+    pub statuses-trip : Trips e p st
+    statuses-trip cs c n q =
+        let h = acceptedSamples cs in
+        let l = trip-law e st h (c .slice) (sym (service-of h) ∙ ap inService (sym (before cs (n .under))) ∙ q) in (
+          (λ z. l .0 (tripped-of (c .slice ∷ h) (sym (now cs c n) ∙ z))),
+          (λ d. now cs c n ∙ tripped-status (c .slice ∷ h) (l .1 d)),
+        )
+
+    pub statuses-return : Returns e p st
+    statuses-return cs c n q =
+        let l = return-law e st (acceptedSamples cs) (c .slice) (tripped-before cs (n .under) q) in
+        ((λ z. l .0 (sym (serving-now cs c n) ∙ z)), (λ d. serving-now cs c n ∙ l .1 d))
+
+    pub statuses-continuous : Sound e → settingsAccepted st ≡ true → ReturnsContinuous e p st
+    statuses-continuous sound ok cs c n q z =
+        return-continuous e st sound ok (acceptedSamples cs) (c .slice) (tripped-before cs (n .under) q) (sym (serving-now cs c n) ∙ z)
+
+  -- those of right reports are
+  module _ (p : Program) (right : Shows e p st) (answered : Answers e p st) where
+    status-before : (cs : List Call) → Under st cs → statusBefore p cs ≡ historyStatus e st (acceptedSamples cs)
+    unfolding reportOf historyReport
+    status-before cs u = ap (λ (r : Report). r .status) (right cs u)
+
+    status-now : (cs : List Call) (c : Call) → Next st cs c → statusNow p cs c ≡ historyStatus e st (c .slice ∷ acceptedSamples cs)
+    unfolding reportOf historyReport
+    status-now cs c n = ap (λ (a : Answer). lastReport (runOf p cs .report) a .status) (answered cs c n)
+
+    pub reports-trip : Trips e p st × Returns e p st
+    reports-trip = (statuses-trip p status-before status-now, statuses-return p status-before status-now)
+
+    reports-continuous : Sound e → settingsAccepted st ≡ true → ReturnsContinuous e p st
+    reports-continuous = statuses-continuous p status-before status-now
+
   -- ---- from the beginning
 
   module _ (ok : settingsAccepted st ≡ true) where
@@ -146,23 +191,9 @@ module _ (e : Equipment) (st : Settings) where
         ap (λ (r : Report). calledAll (ruledBy e) (record { board = fresh; report = r }) cs) (sym fresh-is)
         ∙ calls-are cs [] u
 
-    run-next : (cs : List Call) (c : Call) → Next st cs c → called (ruledBy e) (runOf (ruledBy e) cs) c ≡ at (c .slice ∷ acceptedSamples cs)
-    run-next cs c n =
-        ap (λ (r : Run). called (ruledBy e) r c) (run-is cs (n .under)) ∙ call-is (acceptedSamples cs) c (n .lends)
-        ∙ ap (λ (t : Bool). at (cond t (c .slice ∷ acceptedSamples cs) (acceptedSamples cs))) (n .accepted)
+    -- ---- the claims
 
-    -- ---- the five claims
-
-    statuses-before : (cs : List Call) → Under st cs → runOf (ruledBy e) cs .report .status ≡ historyStatus e st (acceptedSamples cs)
-    unfolding reportOf historyReport
-    statuses-before cs u = ap (λ (r : Run). r .report .status) (run-is cs u)
-
-    statuses-now : (cs : List Call) (c : Call) → Next st cs c
-        → called (ruledBy e) (runOf (ruledBy e) cs) c .report .status ≡ historyStatus e st (c .slice ∷ acceptedSamples cs)
-    unfolding reportOf historyReport
-    statuses-now cs c n = ap (λ (r : Run). r .report .status) (run-next cs c n)
-
-    answer-is : (h : History) (c : Call) → LendsUnder st c → callAccepted c ≡ true
+    pub answer-is : (h : History) (c : Call) → LendsUnder st c → callAccepted c ≡ true
         → stepOf e (recordOf e st h) (c .settings) (c .slice) .answer ≡ Answer.Reported (reportOf (historyReport e st (c .slice ∷ h)))
     answer-is h c l p =
         let q = both (settingsAccepted (c .settings)) (sampleAccepted (c .slice)) p in
@@ -173,28 +204,25 @@ module _ (e : Equipment) (st : Settings) where
         ∙ ap (λ (i : Items). Answer.Reported (reportOf i)) (shown-is e st (c .slice ∷ h)))
         (λ bad. absurd (true≢false (sym (q .0) ∙ bad))) l
 
+    shown-right : Shows e (ruledBy e) st
+    shown-right cs u = ap (λ (r : Run). r .report) (run-is cs u)
+
+    answered-right : Answers e (ruledBy e) st
+    answered-right cs c n =
+        ap (λ (r : Run). stepOf e (r .board) (c .settings) (c .slice) .answer) (run-is cs (n .under))
+        ∙ answer-is (acceptedSamples cs) c (n .lends) (n .accepted)
+
     claims-hold : Sound e → TripAndReturn e (ruledBy e) st
     claims-hold sound =
+        let told = reports-trip (ruledBy e) shown-right answered-right in
         record {
-          shows = λ cs u. ap (λ (r : Run). r .report) (run-is cs u);
-          answers = λ cs c n. ap (λ (r : Run). stepOf e (r .board) (c .settings) (c .slice) .answer) (run-is cs (n .under))
-              ∙ answer-is (acceptedSamples cs) c (n .lends) (n .accepted);
+          shows = shown-right;
+          answers = answered-right;
           refuses = λ cs c u. step-number e (runOf (ruledBy e) cs .board) (c .settings) (c .slice);
           keeps = λ cs u. ap (λ (r : Run). r .board) (run-is cs u);
-          trips = λ cs c n p.
-              let h = acceptedSamples cs in
-              let l = trip-law e st h (c .slice) (sym (service-of h) ∙ ap inService (sym (statuses-before cs (n .under))) ∙ p) in
-              ((λ q. l .0 (tripped-of (c .slice ∷ h) (sym (statuses-now cs c n) ∙ q))), (λ q. statuses-now cs c n ∙ tripped-status (c .slice ∷ h) (l .1 q)));
-          returns = λ cs c n p.
-              let h = acceptedSamples cs in
-              let l = return-law e st h (c .slice) (tripped-of h (sym (statuses-before cs (n .under)) ∙ p)) in (
-                (λ q. l .0 (sym (service-of (c .slice ∷ h)) ∙ ap inService (sym (statuses-now cs c n)) ∙ q)),
-                (λ q. ap inService (statuses-now cs c n) ∙ service-of (c .slice ∷ h) ∙ l .1 q),
-              );
-          returns-continuous = λ cs c n p q.
-              let h = acceptedSamples cs in
-              return-continuous e st sound ok h (c .slice) (tripped-of h (sym (statuses-before cs (n .under)) ∙ p))
-              (sym (service-of (c .slice ∷ h)) ∙ ap inService (sym (statuses-now cs c n)) ∙ q);
+          trips = told .0;
+          returns = told .1;
+          returns-continuous = reports-continuous (ruledBy e) shown-right answered-right sound ok;
         }
 
 -- the counter rule, for an arbitrary rule

@@ -6,7 +6,7 @@ use mathlib.Core.List.{List, [], _∷_, map}
 use Prim.Native.Nat.{ℕ, _^_, _≤_, _<_, zero-le}
 use native.Mathlib.Omega.{arith}
 use lib.IntN.{pos}
-use lib.Dec.{lit<}
+use lib.Dec.{lit≤}
 use lib.ListN.{length, take, drop, getD}
 use lib.Seq.{take-at}
 use mir.Syntax.{w16}
@@ -44,7 +44,7 @@ use Rattle.laws.proofs.Images.{AllFit, each-fit, FieldsFit, image-lengt
 
 -- ---- every sample of a history that calls give was accepted
 
-samples-accepted : (cs : List Call) (h : History) → AllAccepted h → AllAccepted (acceptedAfter h cs)
+pub samples-accepted : (cs : List Call) (h : History) → AllAccepted h → AllAccepted (acceptedAfter h cs)
 samples-accepted [] h a = a
 samples-accepted (c ∷ cs) h a = samples-accepted cs (acceptedOne h c) (by (callAccepted c) refl)
   where
@@ -58,8 +58,8 @@ counts-fit : (h : History) (rs : List Rule) → AllTellable rs → AllFit (map (
 counts-fit h [] t = tt
 counts-fit h (r ∷ rs) t = (omega (arith, t .0 .reach), counts-fit h rs (t .1))
 
-module _ (e : Equipment) (sound : Sound e) (st : Settings) (ok : settingsAccepted st ≡ true) where
-  watts-below : (h : History) → AllAccepted h → historyWatts e st h ≤ 10000
+module _ (e : Equipment) (st : Settings) where
+  pub watts-below : (h : History) → AllAccepted h → historyWatts e st h ≤ 10000
   unfolding historyWatts wattsOf
   watts-below [] a = omega arith
   watts-below (x ∷ h) a =
@@ -71,6 +71,20 @@ module _ (e : Equipment) (sound : Sound e) (st : Settings) (ok : settingsAccepte
       by true ns some low = omega (arith, least-below ns 0 some)
       by false ns some low = omega arith
 
+  pub status-top : (h : History) → historyStatus e st h ≤ 5
+  unfolding historyStatus
+  status-top [] = lit≤ tt
+  status-top (x ∷ h) = by (serving e st (x ∷ h)) (regionOf e x) _
+    where
+      by : (on : Bool) (r : Region) (full : Bool) → statusOf on r full ≤ 5
+      by false r full = lit≤ tt
+      by true Continuous false = lit≤ tt
+      by true Continuous true = lit≤ tt
+      by true Mandatory full = lit≤ tt
+      by true Momentary full = lit≤ tt
+      by true Cease full = lit≤ tt
+
+module _ (e : Equipment) (sound : Sound e) (st : Settings) (ok : settingsAccepted st ≡ true) where
   vars-fit : (h : History) → SFits w16 (historyVars e st h)
   unfolding historyVars varsOf
   vars-fit [] = fits16 (pos 0) (omega arith)
@@ -80,27 +94,14 @@ module _ (e : Equipment) (sound : Sound e) (st : Settings) (ok : settingsAccepte
       by true = fits16 (curve (st .var) (mean e x)) (curve-small 10000 (st .var) (mean e x) (powers-small (st .var) (var-rises st ok)))
       by false = fits16 (pos 0) (omega arith)
 
-  status-below : (h : History) → historyStatus e st h < 256
-  unfolding historyStatus
-  status-below [] = lit< tt
-  status-below (x ∷ h) = by (serving e st (x ∷ h)) (regionOf e x) _
-    where
-      by : (on : Bool) (r : Region) (full : Bool) → statusOf on r full < 256
-      by false r full = lit< tt
-      by true Continuous false = lit< tt
-      by true Continuous true = lit< tt
-      by true Mandatory full = lit< tt
-      by true Momentary full = lit< tt
-      by true Cease full = lit< tt
-
   record-fits : (h : History) → AllAccepted h → FieldsFit (recordOf e st h)
   unfolding imageFields rows
   record-fits h a =
       let counts = subst (λ (ns : List ℕ). AllFit (map (field 4) ns)) (sym (counters-are e st h)) (counts-fit h (rules e st) (rules-tellable e sound st ok)) in
       let vars = subst (SFits w16) (sym (vars-is e st h)) (vars-fit h) in
-      let status : recordOf e st h .status < 256 ^ 1 = omega (arith, status-is e st h, status-below h) in
+      let status : recordOf e st h .status < 256 ^ 1 = omega (arith, status-is e st h, status-top e st h) in
       let ramp : recordOf e st h .ramp < 256 ^ 4 = omega (arith, ramp-is e st h, sheet-rows st ok .wait) in
-      let watts : recordOf e st h .watts < 256 ^ 2 = omega (arith, watts-is e st h, watts-below h a) in
+      let watts : recordOf e st h .watts < 256 ^ 2 = omega (arith, watts-is e st h, watts-below e st h a) in
       record {
         nine = ap length (counters-are e st h);
         signed = vars;

@@ -1,7 +1,7 @@
 -- Every public operation refuses with the first cause in the order of spec 11.2, and a refusal changes nothing.
 -- Assumes nothing.
 use mathlib.Core.Path.{_≡_, refl, sym, ap, ap₂, _∙_}
-use mathlib.Core.Bool.{Bool, true, false, cond, not, _&&_, _||_}
+use mathlib.Core.Bool.{Bool, true, false, cond, not, _&&_, _||_, false≢true}
 use mathlib.Core.List.{List, [], _∷_, _++_, map, append-nil}
 use Prim.Native.Nat.{ℕ, suc, _<_}
 use native.Mathlib.Omega.{arith}
@@ -11,7 +11,7 @@ use lib.Seq.{drop-at}
 use borrow.Author.Tests.{leb-true, leb-false, lt-ltb, le-ltb}
 use Rattle.rules.specs.Tests.{all, within}
 use Rattle.rules.specs.Sensing.{lastCode, voltage, sensed}
-use Rattle.rules.specs.Settings.{Pair, Row, rows, inRow, rising, checkFrom, linesOf, settingsCheck}
+use Rattle.rules.specs.Settings.{Pair, Row, rows, inRow, rising, checkFrom, linesOf, settingsCheck, isAccepted, settingsAccepted}
 use Rattle.rules.specs.Refusals.{refusalNumber, settingsNumber, lineOf, sampleNumber, sensedNumber, answerNumber, savedNumber}
 use Rattle.rules.specs.Samples.{Slice, Equipment, codeOf, frequency, permission, available, operatorLimit, unless, sampleCheck}
 use Rattle.rules.specs.Records.{onSample, onSettings, stepOf}
@@ -23,6 +23,7 @@ use Rattle.rules.specs.declared.Sensed.{Sensed}
 use Rattle.rules.specs.declared.Saved.{Saved}
 use Rattle.rules.specs.declared.SettingsCheck.{SettingsCheck}
 use Rattle.rules.specs.declared.SampleCheck.{SampleCheck}
+use Rattle.claims.specs.Calls.{operationsBy}
 use Rattle.claims.specs.FirstCause.{Cause, cause, first, lineCauses, settingsCauses, sampleCauses, causeLine, RefusesRightly}
 use Rattle.laws.proofs.Images.{image-length}
 
@@ -79,6 +80,14 @@ lines-number n (r ∷ rs) (ps ∷ ls) ds =
 settings-then : (st : Settings) (ds : List Cause) → thenNumber (settingsCheck st) (first ds) ≡ first (settingsCauses st ++ ds)
 unfolding settingsCheck
 settings-then st ds = lines-number 1 rows (linesOf st) ds
+
+-- accepted settings have none
+pub accepted-none : (st : Settings) → settingsAccepted st ≡ true → (ds : List Cause) → first (settingsCauses st ++ ds) ≡ first ds
+accepted-none st ok ds = sym (settings-then st ds) ∙ by (settingsCheck st) ok
+  where
+    by : (k : SettingsCheck) → isAccepted k ≡ true → thenNumber k (first ds) ≡ first ds
+    by SettingsCheck.Accepted a = refl
+    by (SettingsCheck.Refused c line) a = absurd (false≢true a)
 
 -- ---- the line of the first cause
 
@@ -196,7 +205,7 @@ save-untouched b buffer nine = by (leb imageLength (length buffer))
     by true = drop-at (image b) (drop imageLength buffer) imageLength (image-length b nine)
     by false = refl
 
-pub refuses-rightly : (e : Equipment) → RefusesRightly e
+pub refuses-rightly : (e : Equipment) → RefusesRightly (operationsBy e)
 refuses-rightly e =
     record {
       check = settings-number;
@@ -204,7 +213,7 @@ refuses-rightly e =
       sense = sense-number;
       step = step-number e;
       step-keeps = step-kept e;
-      save = save-number;
+      save = λ b. save-number;
       save-keeps = save-kept;
       save-rest = save-untouched;
     }

@@ -3,6 +3,7 @@ pub mod Limits
 pub mod InRange
 pub mod Counting
 pub mod Trace
+pub mod Bits
 pub mod Trip
 pub mod Demand2
 pub mod Saturating
@@ -14,7 +15,9 @@ pub mod Powers
 pub mod OneCurve
 pub mod Least
 pub mod Demand3
+pub mod LentRecords
 pub mod SameRules
 pub mod Alike
 pub mod FirstCause
 pub mod SheetCauses
+pub mod Printed

@@ -315,15 +315,18 @@ module _ (s : List ℕ) where
   back : (i n : ℕ) → 0 < n → FirstCauseAt s i n → handedBack s ≡ firstLine (fromLine i s)
   back i n h f = refused-part (omega (arith, h, refuses i n h .1 f .0)) ∙ ap firstLine (place i n h f)
 
-  rest : readSheet s .check ≡ SettingsCheck.Accepted → handedBack s ≡ fromLine sheetLines s
-  unfolding handedBack
-  rest e =
+  follows : readSheet s .check ≡ SettingsCheck.Accepted → drop (readSheet s .start) s ≡ fromLine sheetLines s
+  follows e =
       ⊎-elim
       (λ x. absurd (not-accepted x e))
-      (λ x. ap (λ (r : SheetReading). partOf (r .check) (drop (r .start) s)) (x .reading) ∙ x .place ∙ ap (λ (k : ℕ). fromLine k s) many)
+      (λ x. ap (λ (r : SheetReading). drop (r .start) s) (x .reading) ∙ x .place ∙ ap (λ (k : ℕ). fromLine k s) many)
       reads
 
-pub sheets-refused-rightly : SheetsRefusedRightly
+  rest : readSheet s .check ≡ SettingsCheck.Accepted → handedBack s ≡ fromLine sheetLines s
+  unfolding handedBack
+  rest e = ap (λ (c : SettingsCheck). partOf c (drop (readSheet s .start) s)) e ∙ follows e
+
+pub sheets-refused-rightly : SheetsRefusedRightly readSheet handedBack
 sheets-refused-rightly = record {
   refuses = refuses;
   accepts = accepts;
@@ -332,6 +335,7 @@ sheets-refused-rightly = record {
   place = place;
   inside = inside;
   missing = missing;
+  follows = follows;
   back = back;
   rest = rest;
 }

@@ -24,6 +24,14 @@ use Rattle.claims.specs.TripAndReturn.{countOf, recordOf}
 use Rattle.basics.proofs.Bools.{eqb-min}
 use Rattle.laws.proofs.Counting.{counted-is, capped-is, full-is, each-of, each-all}
 
+pub same-items : {i j : Items} → i .status ≡ j .status → i .bits ≡ j .bits → i .share ≡ j .share → i .watts ≡ j .watts → i .vars ≡ j .vars → i ≡ j
+same-items e₁ e₂ e₃ e₄ e₅ = made e₁ e₂ e₃ e₄ e₅
+  where
+    made : {s s′ : ℕ} {b b′ : List Bool} {q q′ w w′ : ℕ} {v v′ : ℤ} → s ≡ s′ → b ≡ b′ → q ≡ q′ → w ≡ w′ → v ≡ v′
+        → _≡_ {A = Items} (record { status = s; bits = b; share = q; watts = w; vars = v })
+        (record { status = s′; bits = b′; share = q′; watts = w′; vars = v′ })
+    made e₁ e₂ e₃ e₄ e₅ = rw (e₁, e₂, e₃, e₄, e₅)
+
 pub service-status : (on : Bool) (r : Region) (f : Bool) → inService (statusOf on r f) ≡ on
 unfolding within
 service-status false r f = refl
@@ -67,7 +75,7 @@ module _ (e : Equipment) (st : Settings) where
 
   -- ---- a record of a history is read as it is, in what a step reads
 
-  read-counters : (h : History) → readAs e st (recordOf e st h) .counters ≡ map (countOf h) (rules e st)
+  pub read-counters : (h : History) → readAs e st (recordOf e st h) .counters ≡ map (countOf h) (rules e st)
   unfolding readAs
   read-counters h = ap (each capped (rules e st)) (counters-are h) ∙ each-all capped (countOf h) h (capped-is h) (rules e st)
 
@@ -75,7 +83,7 @@ module _ (e : Equipment) (st : Settings) where
   unfolding readAs within
   read-service h = kept-service (recordOf e st h .status) ∙ service-is h
 
-  read-ramp : (h : History) → readAs e st (recordOf e st h) .ramp ≡ min (st .ramp) (climbed e st h)
+  pub read-ramp : (h : History) → readAs e st (recordOf e st h) .ramp ≡ min (st .ramp) (climbed e st h)
   unfolding readAs
   read-ramp h = rw (service-is h, ramp-is h) (by (serving e st h) refl)
     where
@@ -129,9 +137,5 @@ module _ (e : Equipment) (st : Settings) where
   pub shown-is : (h : History) → shown e st (recordOf e st h) ≡ historyReport e st h
   unfolding shown historyReport historyShare
   shown-is h =
-      made _ _ _ _ _ _ _ _ _ _ (status-is h) (ap (each full (rules e st)) (counters-are h) ∙ each-all full (complete h) h (full-is h) (rules e st))
+      same-items (status-is h) (ap (each full (rules e st)) (counters-are h) ∙ each-all full (complete h) h (full-is h) (rules e st))
       (ap (shareOf st) (ramp-is h)) (watts-is h) (vars-is h)
-    where
-      made : (s s′ : ℕ) (b b′ : List Bool) (q q′ w w′ : ℕ) (v v′ : ℤ) → s ≡ s′ → b ≡ b′ → q ≡ q′ → w ≡ w′ → v ≡ v′
-          → _≡_ {A = Items} (record { status = s; bits = b; share = q; watts = w; vars = v }) (record { status = s′; bits = b′; share = q′; watts = w′; vars = v′ })
-      made s s′ b b′ q q′ w w′ v v′ e₁ e₂ e₃ e₄ e₅ = rw (e₁, e₂, e₃, e₄, e₅)

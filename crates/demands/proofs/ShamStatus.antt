@@ -1,0 +1,234 @@
+-- Shams that keep the record and show other reports: which part of demand 2 catches each, and that the others hold.
+-- Assumes nothing.
+use mathlib.Core.Path.{_≡_, refl, sym, ap, _∙_, subst}
+use mathlib.Core.Bool.{Bool, true, false, cond, false≢true}
+use mathlib.Core.Logic.{inl}
+use mathlib.Core.List.{List, [], _∷_}
+use Prim.Native.Nat.{ℕ, max}
+use native.Mathlib.Omega.{arith}
+use Rattle.rules.specs.Tests.{all, any, within}
+use Rattle.rules.specs.Sensing.{largest, voltage}
+use Rattle.rules.specs.Settings.{rows, inRow, rising, checkFrom, linesOf, settingsCheck, settingsAccepted}
+use Rattle.rules.specs.Samples.{sampleCheck, sampleAccepted}
+use Rattle.rules.specs.Counters.{broken, inRange}
+use Rattle.rules.specs.Regions.{voltageRegion, frequencyRegion, regionOf, ourEquipment}
+use Rattle.rules.specs.Curves.{curveFrom, curve, nameplate}
+use Rattle.rules.specs.Refusals.{answerNumber}
+use Rattle.rules.specs.Service.{inService, varsOf, wattsOf}
+use Rattle.rules.specs.Reports.{reportOf}
+use Rattle.rules.specs.Records.{fresh, each, readAs, settled, ruled, next, shown, stepOf}
+use Rattle.rules.specs.History.{streak, serving, climbed, historyStatus, historyShare, historyWatts, historyVars, historyReport}
+use Rattle.rules.specs.declared.Settings.{Settings}
+use Rattle.rules.specs.declared.Board.{Board}
+use Rattle.rules.specs.declared.Report.{Report}
+use Rattle.rules.specs.declared.Answer.{Answer}
+use Rattle.rules.specs.declared.Stepped.{Stepped}
+use Rattle.claims.specs.Calls.{Call, Run, ruledBy, lastReport, called, calledAll, runOf, callAccepted, acceptedSamples, Under}
+use Rattle.claims.specs.TripAndReturn.{recordOf, statusBefore, statusNow, Next, Shows, Refuses, Keeps, Trips, Returns, ReturnsContinuous, TripAndReturn}
+use Rattle.basics.proofs.Bools.{both}
+use Rattle.laws.proofs.FirstCause.{step-number}
+use Rattle.laws.proofs.Trace.{service-is}
+use Rattle.laws.proofs.Trip.{return-law, return-continuous}
+use Rattle.laws.proofs.Demand2.{demand2, accepted-step, refused-step, service-of, statuses-trip, statuses-return, statuses-continuous}
+use Rattle.demands.specs.Shams.{exampleSheet, reshown, showing, turnedOver, entering, tripped, inventsBits, hidesTrips, saysTripped}
+use Rattle.demands.proofs.Sound.{our-equipment-sound}
+use Rattle.demands.proofs.Shams.{quick-accepted}
+
+abbrev quick : Settings
+quick = exampleSheet 0
+
+-- ours meets demand 2 on this sheet
+right : TripAndReturn ourEquipment (ruledBy ourEquipment) quick
+right = demand2 ourEquipment our-equipment-sound quick quick-accepted
+
+-- what our step answers
+abbrev answerOf : Board → Call → Answer
+answerOf b c = stepOf ourEquipment b (c .settings) (c .slice) .answer
+
+number-same : (g : Report → Report) (a : Answer) → answerNumber (reshown g a) ≡ answerNumber a
+number-same g (Answer.Reported r) = refl
+number-same g (Answer.Refused cause) = refl
+
+-- ---- a board that shows other reports: its record is ours, and it refuses as ours does
+
+module _ (f : Bool → Report → Report) where
+  boards-same : (cs : List Call) (r q : Run) → r .board ≡ q .board → calledAll (showing f) r cs .board ≡ calledAll (ruledBy ourEquipment) q cs .board
+  boards-same [] r q e = e
+  boards-same (c ∷ cs) r q e =
+      boards-same cs (called (showing f) r c) (called (ruledBy ourEquipment) q c) (ap (λ (b : Board). stepOf ourEquipment b (c .settings) (c .slice) .board) e)
+
+  board-is : (cs : List Call) → runOf (showing f) cs .board ≡ runOf (ruledBy ourEquipment) cs .board
+  board-is cs = boards-same cs _ _ refl
+
+  refuses : Refuses (showing f) quick
+  refuses cs c u =
+      let b = runOf (showing f) cs .board in
+      number-same (f (inService (b .status))) (answerOf b c) ∙ step-number ourEquipment b (c .settings) (c .slice)
+
+  keeps : Keeps ourEquipment (showing f) quick
+  keeps cs u = board-is cs ∙ right .keeps cs u
+
+  -- the report of an accepted call is the right one, changed
+  now-is : (cs : List Call) (c : Call) → Next quick cs c
+      → statusNow (showing f) cs c
+      ≡ f (inService (runOf (showing f) cs .board .status)) (reportOf (historyReport ourEquipment quick (c .slice ∷ acceptedSamples cs))) .status
+  now-is cs c n =
+      let r = runOf (showing f) cs in
+      ap (λ (a : Answer). lastReport (r .report) (reshown (f (inService (r .board .status))) a) .status)
+      (ap (λ (b : Board). answerOf b c) (board-is cs) ∙ right .answers cs c n)
+
+-- ---- other bits, the same statuses
+
+statuses-same : (cs : List Call) (r q : Run) → r .board ≡ q .board → r .report .status ≡ q .report .status
+    → calledAll (showing turnedOver) r cs .report .status ≡ calledAll (ruledBy ourEquipment) q cs .report .status
+statuses-same [] r q e s = s
+statuses-same (c ∷ cs) r q e s =
+    statuses-same cs (called (showing turnedOver) r c) (called (ruledBy ourEquipment) q c)
+    (ap (λ (b : Board). stepOf ourEquipment b (c .settings) (c .slice) .board) e)
+    (by (answerOf (r .board) c) ∙ ap (λ (b : Board). lastReport (q .report) (answerOf b c) .status) e)
+  where
+    by : (a : Answer) → lastReport (r .report) (reshown (turnedOver (inService (r .board .status))) a) .status ≡ lastReport (q .report) a .status
+    by (Answer.Reported x) = refl
+    by (Answer.Refused cause) = s
+
+bits-before : (cs : List Call) → Under quick cs → statusBefore (showing turnedOver) cs ≡ historyStatus ourEquipment quick (acceptedSamples cs)
+unfolding reportOf historyReport
+bits-before cs u = statuses-same cs _ _ refl refl ∙ ap (λ (r : Report). r .status) (right .shows cs u)
+
+bits-now : (cs : List Call) (c : Call) → Next quick cs c
+    → statusNow (showing turnedOver) cs c ≡ historyStatus ourEquipment quick (c .slice ∷ acceptedSamples cs)
+unfolding reportOf historyReport
+bits-now cs c n = now-is turnedOver cs c n
+
+abbrev calls : ℕ → ℕ → Call
+calls frequency permission = record { settings = quick; slice = 1000 ∷ 1000 ∷ 1000 ∷ frequency ∷ permission ∷ 10000 ∷ 10000 ∷ [] }
+
+abbrev calm : Call
+calm = calls 60000 1
+
+-- after a sample at nominal ready is the one bit
+bits-told : ¬ Shows ourEquipment (showing turnedOver) quick
+unfolding all any within largest voltage rows inRow rising checkFrom linesOf settingsCheck sampleCheck broken inRange voltageRegion frequencyRegion regionOf curveFrom curve nameplate varsOf wattsOf reportOf fresh each readAs settled ruled next shown stepOf streak serving climbed historyStatus historyShare historyWatts historyVars historyReport
+bits-told d =
+    let e : _≡_ {A = ℕ} 510 1 = ap (λ (r : Report). r .bits) (d (calm ∷ []) (inl refl, tt)) in
+    omega arith
+
+pub only-reports : (¬ Shows ourEquipment inventsBits quick) × Refuses inventsBits quick × Keeps ourEquipment inventsBits quick
+    × Trips ourEquipment inventsBits quick × Returns ourEquipment inventsBits quick × ReturnsContinuous ourEquipment inventsBits quick
+unfolding inventsBits
+only-reports = (
+  bits-told,
+  refuses turnedOver,
+  keeps turnedOver,
+  statuses-trip ourEquipment quick (showing turnedOver) bits-before bits-now,
+  statuses-return ourEquipment quick (showing turnedOver) bits-before bits-now,
+  statuses-continuous ourEquipment quick (showing turnedOver) bits-before bits-now our-equipment-sound quick-accepted,
+)
+
+-- ---- trips that are hidden
+
+-- where it says that it is tripped, its record is
+abbrev Truthful : Run → Type 0
+Truthful r = r .report .status ≡ 0 → inService (r .board .status) ≡ false
+
+-- a board at work, after a step of ours
+abbrev shownBy : Run → Stepped → Run
+shownBy r t = record { board = t .board; report = lastReport (r .report) (reshown (entering (inService (r .board .status))) (t .answer)) }
+
+truthful-one : (r : Run) (c : Call) → Truthful r → Truthful (shownBy r (stepOf ourEquipment (r .board) (c .settings) (c .slice)))
+unfolding reportOf shown within
+truthful-one r c p = by (callAccepted c) refl
+  where
+    stepped : (was : Bool) (after : Board) → cond was (max 1 (after .status)) (after .status) ≡ 0 → inService (after .status) ≡ false
+    stepped true after z = absurd (omega arith)
+    stepped false after z = ap inService z
+
+    by : (b : Bool) → callAccepted c ≡ b → Truthful (shownBy r (stepOf ourEquipment (r .board) (c .settings) (c .slice)))
+    by true q =
+        let accepted = both (settingsAccepted (c .settings)) (sampleAccepted (c .slice)) q in
+        subst (λ (t : Stepped). Truthful (shownBy r t)) (sym (accepted-step ourEquipment (r .board) (c .settings) (c .slice) (accepted .0) (accepted .1)))
+        (stepped (inService (r .board .status)) (next ourEquipment (c .settings) (c .slice) (r .board)))
+    by false q =
+        subst (λ (t : Stepped). Truthful (shownBy r t)) (sym (refused-step ourEquipment (r .board) (c .settings) (c .slice) q .1)) p
+
+truthful : (cs : List Call) (r : Run) → Truthful r → Truthful (calledAll (showing entering) r cs)
+truthful [] r p = p
+truthful (c ∷ cs) r p = truthful cs (called (showing entering) r c) (truthful-one r c p)
+
+tripped-inside : (cs : List Call) → statusBefore (showing entering) cs ≡ 0 → inService (runOf (showing entering) cs .board .status) ≡ false
+unfolding fresh within
+tripped-inside cs z = truthful cs _ (λ q. refl) z
+
+module _ (cs : List Call) (c : Call) (n : Next quick cs c) (z : statusBefore (showing entering) cs ≡ 0) where
+  tripped-before : serving ourEquipment quick (acceptedSamples cs) ≡ false
+  tripped-before =
+      sym (service-is ourEquipment quick (acceptedSamples cs)) ∙ ap (λ (b : Board). inService (b .status)) (sym (keeps entering cs (n .under)))
+      ∙ tripped-inside cs z
+
+  entering-now : statusNow (showing entering) cs c ≡ historyStatus ourEquipment quick (c .slice ∷ acceptedSamples cs)
+  unfolding reportOf historyReport
+  entering-now =
+      now-is entering cs c n
+      ∙ ap (λ (was : Bool). entering was (reportOf (historyReport ourEquipment quick (c .slice ∷ acceptedSamples cs))) .status) (tripped-inside cs z)
+
+  serving-now : inService (statusNow (showing entering) cs c) ≡ serving ourEquipment quick (c .slice ∷ acceptedSamples cs)
+  serving-now = ap inService entering-now ∙ service-of ourEquipment quick (c .slice ∷ acceptedSamples cs)
+
+hidden-returns : Returns ourEquipment (showing entering) quick
+hidden-returns cs c n z =
+    let l = return-law ourEquipment quick (acceptedSamples cs) (c .slice) (tripped-before cs c n z) in
+    ((λ q. l .0 (sym (serving-now cs c n z) ∙ q)), (λ d. serving-now cs c n z ∙ l .1 d))
+
+hidden-continuous : ReturnsContinuous ourEquipment (showing entering) quick
+hidden-continuous cs c n z q =
+    return-continuous ourEquipment quick our-equipment-sound quick-accepted (acceptedSamples cs) (c .slice) (tripped-before cs c n z)
+    (sym (serving-now cs c n z) ∙ q)
+
+-- permission off, in service: it says `entering`
+hidden-told : ¬ Trips ourEquipment (showing entering) quick
+unfolding all any within largest voltage rows inRow rising checkFrom linesOf settingsCheck sampleCheck broken inRange voltageRegion frequencyRegion regionOf curveFrom curve nameplate varsOf wattsOf reportOf fresh each readAs settled ruled next shown stepOf
+hidden-told d =
+    let n : Next quick (calm ∷ []) (calls 60000 0) = record { under = (inl refl, tt); lends = inl refl; accepted = refl } in
+    let e : _≡_ {A = ℕ} 1 0 = d (calm ∷ []) (calls 60000 0) n refl .1 (inl refl) in
+    omega arith
+
+pub only-trips : (¬ Trips ourEquipment hidesTrips quick) × Refuses hidesTrips quick × Keeps ourEquipment hidesTrips quick
+    × Returns ourEquipment hidesTrips quick × ReturnsContinuous ourEquipment hidesTrips quick
+unfolding hidesTrips
+only-trips = (hidden-told, refuses entering, keeps entering, hidden-returns, hidden-continuous)
+
+-- ---- always tripped, by its word
+
+silent-one : (r : Run) (c : Call) → r .report .status ≡ 0 → called (showing tripped) r c .report .status ≡ 0
+silent-one r c z = by (answerOf (r .board) c)
+  where
+    by : (a : Answer) → lastReport (r .report) (reshown (tripped (inService (r .board .status))) a) .status ≡ 0
+    by (Answer.Reported x) = refl
+    by (Answer.Refused cause) = z
+
+silent : (cs : List Call) (r : Run) → r .report .status ≡ 0 → calledAll (showing tripped) r cs .report .status ≡ 0
+silent [] r z = z
+silent (c ∷ cs) r z = silent cs (called (showing tripped) r c) (silent-one r c z)
+
+-- status 0 is not in service
+no-service : (status : ℕ) → status ≡ 0 → inService status ≡ true → ⊥
+unfolding within
+no-service status z q = false≢true (sym (ap inService z) ∙ q)
+
+silent-trips : Trips ourEquipment (showing tripped) quick
+silent-trips cs c n q = absurd (no-service _ (silent cs _ refl) q)
+
+silent-continuous : ReturnsContinuous ourEquipment (showing tripped) quick
+silent-continuous cs c n z q = absurd (no-service _ (silent-one (runOf (showing tripped) cs) c (silent cs _ refl)) q)
+
+-- a wait of 0 is over after one sample in range: where ours returns, it is full
+silent-told : ¬ Returns ourEquipment (showing tripped) quick
+unfolding all any within largest voltage rows inRow rising checkFrom linesOf settingsCheck sampleCheck broken inRange voltageRegion frequencyRegion regionOf curveFrom curve nameplate varsOf wattsOf reportOf fresh each readAs settled ruled next shown stepOf
+silent-told d =
+    let n : Next quick [] calm = record { under = tt; lends = inl refl; accepted = refl } in
+    false≢true (d [] calm n refl .1 (right .returns [] calm n refl .0 refl))
+
+pub only-returns : (¬ Returns ourEquipment saysTripped quick) × Refuses saysTripped quick × Keeps ourEquipment saysTripped quick
+    × Trips ourEquipment saysTripped quick × ReturnsContinuous ourEquipment saysTripped quick
+unfolding saysTripped
+only-returns = (silent-told, refuses tripped, keeps tripped, silent-trips, silent-continuous)
