@@ -12,6 +12,7 @@ use Rattle.laws.proofs.Demand2.{demand2, reports-trip, counter-rule}
 use Rattle.laws.proofs.Demand3.{demand3}
 use Rattle.laws.proofs.Bits.{bits-unpacked, reports-items, two-histories-reported}
 use Rattle.laws.proofs.LentRecords.{reads-records}
+use Rattle.laws.proofs.Printed.{words-tell}
 use Rattle.laws.proofs.Alike.{step-alike}
 use Rattle.laws.proofs.Curves.{var-rises, watt-rises}
 use Rattle.laws.proofs.OneCurve.{one-curve}
@@ -28,8 +29,8 @@ use Rattle.demands.specs.Demands.{OneSheetReading, DefaultSheetWritten, 
 use Rattle.demands.specs.Demands.{AcceptedSamplesWritable, SampleLinesReadBack, SampleLinesWrittenOut, EveryCounter, SensingRule, EdgeValues}
 use Rattle.demands.specs.Demands.{ShamsCaught, ShamImagesCaught, ShamReadingsCaught, AnyTripAndReturn, AnyTwoHistories, OurEquipmentSound}
 use Rattle.demands.specs.Demands.{PowerLaws}
-use Rattle.demands.specs.Demands.{AlikeEquipmentStepsAlike, OurPrinted, OnePrinting, SamplesOnLines, BitsUnpacked, ReportsAreItems}
-use Rattle.demands.specs.Demands.{OurTwoHistoriesReported}
+use Rattle.demands.specs.Demands.{AlikeEquipmentStepsAlike, OurPrinted, OnePrinting, SamplesOnLines, StatusWordsTell, BitsUnpacked}
+use Rattle.demands.specs.Demands.{ReportsAreItems, OurTwoHistoriesReported}
 use Rattle.demands.specs.Demands.{OurLentRecords, LentValues, RightReportsTrip, ShamRefusalsCaught, ShamReportsCaught}
 use Rattle.demands.proofs.Edges.{edges-hold}
 use Rattle.demands.proofs.Lent.{lent-read}
@@ -101,6 +102,9 @@ onePrinting = one-printing ourEquipment
 
 pub samplesOnLines : SamplesOnLines
 samplesOnLines = samples-on-lines
+
+pub statusWordsTell : StatusWordsTell
+statusWordsTell = words-tell
 
 pub bitsUnpacked : BitsUnpacked
 bitsUnpacked = bits-unpacked

@@ -11,10 +11,10 @@ use Rattle.rules.specs.Tests.{all, any, within}
 use Rattle.rules.specs.Text.{firstLine, hasFeed}
 use Rattle.rules.specs.Forms.{sheetForms, numbersOf}
 use Rattle.rules.specs.Settings.{rows, inRow, rising, checkFrom, linesOf, settingsCheck}
-use Rattle.rules.specs.Samples.{Slice, sampleCheck}
+use Rattle.rules.specs.Samples.{sampleCheck}
 use Rattle.rules.specs.Images.{numberBytes, fieldBytes, imageFields, image, saveCheck}
 use Rattle.rules.specs.Records.{fresh, readAs, stepOf}
-use Rattle.rules.specs.Sheets.{SheetReading, readFrom, readSheet, handedBack}
+use Rattle.rules.specs.Sheets.{SheetReading, readFrom, readSheet}
 use Rattle.rules.specs.declared.Settings.{Settings}
 use Rattle.rules.specs.declared.Board.{Board}
 use Rattle.rules.specs.declared.Refusal.the-variants.{Range}

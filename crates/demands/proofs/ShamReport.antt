@@ -6,7 +6,6 @@ use mathlib.Core.List.{List, [], _∷_, _++_, map}
 use Prim.Native.Nat.{ℕ, suc, max}
 use native.Mathlib.Omega.{arith}
 use lib.Dec.{leb}
-use lib.IntN.{ℤ}
 use borrow.Author.Tests.{lt-leb}
 use Rattle.rules.specs.Tests.{any, within}
 use Rattle.rules.specs.Settings.{settingsAccepted, limitAt}
@@ -14,7 +13,6 @@ use Rattle.rules.specs.Samples.{Slice, Equipment, permitted, frequency, lowest,
 use Rattle.rules.specs.Counters.{Kind, undervoltage, overvoltage, underfrequency, overfrequency, kinds, broken, inRange, limitRules, readyRule}
 use Rattle.rules.specs.Regions.{ourEquipment}
 use Rattle.rules.specs.Service.{serves, varsOf, wattsOf}
-use Rattle.rules.specs.Reports.{Items}
 use Rattle.rules.specs.History.{History, followedBy, streak, complete, serving, climbed, historyStatus, historyShare, historyWatts, historyVars, historyReport}
 use Rattle.rules.specs.declared.Settings.{Settings}
 use Rattle.claims.specs.TwoHistories.{AgreeBy}

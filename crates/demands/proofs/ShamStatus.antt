@@ -24,7 +24,7 @@ use Rattle.rules.specs.declared.Report.{Report}
 use Rattle.rules.specs.declared.Answer.{Answer}
 use Rattle.rules.specs.declared.Stepped.{Stepped}
 use Rattle.claims.specs.Calls.{Call, Run, ruledBy, lastReport, called, calledAll, runOf, callAccepted, acceptedSamples, Under}
-use Rattle.claims.specs.TripAndReturn.{recordOf, statusBefore, statusNow, Next, Shows, Refuses, Keeps, Trips, Returns, ReturnsContinuous, TripAndReturn}
+use Rattle.claims.specs.TripAndReturn.{statusBefore, statusNow, Next, Shows, Refuses, Keeps, Trips, Returns, ReturnsContinuous, TripAndReturn}
 use Rattle.basics.proofs.Bools.{both}
 use Rattle.laws.proofs.FirstCause.{step-number}
 use Rattle.laws.proofs.Trace.{service-is}

@@ -32,10 +32,11 @@ use Rattle.rules.specs.Images.{savedInto}
 use Rattle.rules.specs.Forms.{numbersOf}
 use Rattle.rules.specs.Sheets.{SheetReading, readSheet, handedBack}
 use Rattle.rules.specs.Defaults.{defaultSheet, defaultSettings}
-use Rattle.rules.specs.Transcripts.{Line, ended, linesIn, lineStep, transcript}
+use Rattle.rules.specs.Transcripts.{Line, ended, linesIn, lineStep, reportLine, transcript}
 use Rattle.rules.specs.declared.Point.{Point}
 use Rattle.rules.specs.declared.Settings.{Settings}
 use Rattle.rules.specs.declared.Board.{Board}
+use Rattle.rules.specs.declared.Report.{Report}
 use Rattle.rules.specs.declared.SettingsCheck.{SettingsCheck}
 use Rattle.formats.specs.Sheets.{writtenSheet, ReadsSheetsBack, AcceptsSheetsOnly, AcceptAlike}
 use Rattle.formats.specs.Marks.{ReadsForms}
@@ -53,7 +54,7 @@ use Rattle.claims.specs.TripAndReturn.{Demand2}
 use Rattle.claims.specs.TwoHistories.{TwoHistoriesBy, Demand3By, Demand3}
 use Rattle.claims.specs.Bits.{UnpacksBits}
 use Rattle.claims.specs.LentRecords.{ReadsRecords}
-use Rattle.claims.specs.Printed.{sampleOn, readPart, PrintsByHistory}
+use Rattle.claims.specs.Printed.{sampleOn, statusWord, readPart, PrintsByHistory}
 use Rattle.demands.specs.Edges.{EdgesHold}
 use Rattle.demands.specs.Lent.{LentRead}
 use Rattle.demands.specs.Shams.{exampleSheet, tripsEarly, inventsCounters, alwaysTripped, repeatsFirst, keepsRecord, turnsAway}
@@ -188,6 +189,11 @@ OnePrinting =
 -- A line's sample there (`sampleOn`) is x exactly when the line is x written out and ended, x having seven numbers of at most six digits.
 abbrev pub SamplesOnLines : Type 0
 SamplesOnLines = (l : Line) (x : Slice) → (sampleOn l ≡ some x) ↔ ((writable x ≡ true) × (l ≡ ended (writtenSample x)))
+
+-- Each status has a word of its own: two report lines have the same word exactly when their statuses are the same.
+abbrev pub StatusWordsTell : Type 0
+StatusWordsTell =
+    (r q : Report) → r .status ≤ 5 → q .status ≤ 5 → (statusWord (reportLine r) ≡ statusWord (reportLine q)) ↔ (r .status ≡ q .status)
 
 -- ---- the bits of a report
 

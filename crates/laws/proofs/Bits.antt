@@ -10,7 +10,7 @@ use native.Mathlib.Omega.{arith}
 use lib.ListN.{length, getD, length-map}
 use Rattle.rules.specs.Samples.{Slice, Equipment}
 use Rattle.rules.specs.Counters.{Rule, counted, full, rules}
-use Rattle.rules.specs.Reports.{Items, packedAfter, reportOf}
+use Rattle.rules.specs.Reports.{packedAfter, reportOf}
 use Rattle.rules.specs.Records.{each, capped, readAs, settled, ruled, next, shown}
 use Rattle.rules.specs.History.{History, complete, historyReport}
 use Rattle.rules.specs.Transcripts.{bitDigits}

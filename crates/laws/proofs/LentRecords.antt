@@ -1,9 +1,9 @@
 -- A lent record counts by its reading; reading twice is reading once; a record that calls have left is read as it is.
 -- Assumes nothing.
 use mathlib.Core.Path.{_≡_, refl, sym, ap, ap₂, _∙_}
-use mathlib.Core.Bool.{Bool, true, false, cond, _&&_}
+use mathlib.Core.Bool.{Bool, true, false, cond}
 use mathlib.Core.List.{List, [], _∷_}
-use Prim.Native.Nat.{ℕ, _≤_, min}
+use Prim.Native.Nat.{ℕ, min}
 use native.Mathlib.Omega.{arith}
 use Rattle.rules.specs.Settings.{settingsAccepted}
 use Rattle.rules.specs.Samples.{Slice, Equipment, sampleAccepted}
@@ -11,12 +11,12 @@ use Rattle.rules.specs.Counters.{Rule, rules}
 use Rattle.rules.specs.Reports.{reportOf}
 use Rattle.rules.specs.Service.{inService}
 use Rattle.rules.specs.Records.{each, capped, readAs, ruled, next, shown, stepOf}
-use Rattle.rules.specs.History.{History, serving, historyStatus, historyWatts}
+use Rattle.rules.specs.History.{History, serving}
 use Rattle.rules.specs.declared.Settings.{Settings}
 use Rattle.rules.specs.declared.Board.{Board}
 use Rattle.rules.specs.declared.Answer.{Answer}
 use Rattle.rules.specs.declared.Stepped.{Stepped}
-use Rattle.claims.specs.Calls.{Call, Run, ruledBy, runOf, callAccepted, acceptedSamples, Under}
+use Rattle.claims.specs.Calls.{Call, Run, ruledBy, runOf, acceptedSamples, Under}
 use Rattle.claims.specs.LentRecords.{ReadsRecords}
 use Rattle.claims.specs.TripAndReturn.{recordOf}
 use Rattle.claims.specs.TwoHistories.{AllAccepted}

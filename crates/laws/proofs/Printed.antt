@@ -3,10 +3,11 @@
 use mathlib.Core.Path.{_≡_, refl, sym, ap, ap₂, _∙_}
 use mathlib.Core.Bool.{Bool, true, false, cond, _&&_, false≢true}
 use mathlib.Core.Logic.{_⊎_, inl, inr, ⊎-elim, _↔_}
-use mathlib.Core.List.{List, [], _∷_, _++_, map}
+use mathlib.Core.List.{List, [], _∷_, _++_}
 use mathlib.Core.Option.{Option, none, some}
 use Prim.Native.Nat.{ℕ, zero, suc, _+_, _≤_, _<_}
 use native.Mathlib.Omega.{arith}
+use lib.Dec.{eqb}
 use lib.IntN.{ℤ, pos}
 use lib.ListN.{length, getD, take}
 use lib.Seq.{ext-getD}
@@ -18,8 +19,8 @@ use Rattle.rules.specs.Refusals.{refusalNumber, sampleNumber, answerNumber}
 use Rattle.rules.specs.Reports.{reportOf}
 use Rattle.rules.specs.Records.{fresh, turnedAway, stepOf}
 use Rattle.rules.specs.History.{History, serving, historyStatus, historyReport}
-use Rattle.rules.specs.Transcripts.{Line, ended, unended, statusWords, reportNumbers, spaced, spacedNumbers, reportLine, refusedLine, answerLine, onSampleNumbers}
-use Rattle.rules.specs.Transcripts.{bitDigits, lineStep, answersFrom}
+use Rattle.rules.specs.Transcripts.{Line, ended, unended, statusWords, spaced, spacedNumbers, reportLine, refusedLine, answerLine, onSampleNumbers}
+use Rattle.rules.specs.Transcripts.{lineStep, answersFrom}
 use Rattle.rules.specs.declared.Settings.{Settings}
 use Rattle.rules.specs.declared.Board.{Board}
 use Rattle.rules.specs.declared.Report.{Report}
@@ -61,22 +62,36 @@ word-ends (suc (suc (suc (suc zero)))) h rest = refl
 word-ends (suc (suc (suc (suc (suc zero))))) h rest = refl
 word-ends (suc (suc (suc (suc (suc (suc s)))))) h rest = absurd (omega arith)
 
--- only status 0 has the word `tripped`
-first-byte : (s : ℕ) → wordOf s ≡ trippedWord → getD (wordOf s) 0 0 ≡ 116
-first-byte s e = ap (λ (t : List ℕ). getD t 0 0) e
+-- the status that has a word, by its first two bytes
+abbrev numberOf : List ℕ → ℕ
+numberOf word =
+    cond (eqb (getD word 0 0) 116) 0
+    (cond (eqb (getD word 0 0) 101) 1
+    (cond (eqb (getD word 1 0) 111) (cond (eqb (getD word 0 0) 99) 2 4)
+    (cond (eqb (getD word 0 0) 109) 3 5)))
 
-tripped-only : (s : ℕ) → s ≤ 5 → wordOf s ≡ trippedWord → s ≡ 0
-tripped-only zero h e = refl
-tripped-only (suc zero) h e = let z : _≡_ {A = ℕ} 101 116 = first-byte 1 e in absurd (omega arith)
-tripped-only (suc (suc zero)) h e = let z : _≡_ {A = ℕ} 99 116 = first-byte 2 e in absurd (omega arith)
-tripped-only (suc (suc (suc zero))) h e = let z : _≡_ {A = ℕ} 109 116 = first-byte 3 e in absurd (omega arith)
-tripped-only (suc (suc (suc (suc zero)))) h e = let z : _≡_ {A = ℕ} 109 116 = first-byte 4 e in absurd (omega arith)
-tripped-only (suc (suc (suc (suc (suc zero))))) h e = let z : _≡_ {A = ℕ} 99 116 = first-byte 5 e in absurd (omega arith)
-tripped-only (suc (suc (suc (suc (suc (suc s)))))) h e = absurd (omega arith)
+number-back : (s : ℕ) → s ≤ 5 → numberOf (wordOf s) ≡ s
+number-back zero h = refl
+number-back (suc zero) h = refl
+number-back (suc (suc zero)) h = refl
+number-back (suc (suc (suc zero))) h = refl
+number-back (suc (suc (suc (suc zero)))) h = refl
+number-back (suc (suc (suc (suc (suc zero))))) h = refl
+number-back (suc (suc (suc (suc (suc (suc s)))))) h = absurd (omega arith)
+
+-- no two statuses have one word
+words-differ : (s t : ℕ) → s ≤ 5 → t ≤ 5 → wordOf s ≡ wordOf t → s ≡ t
+words-differ s t h g e = sym (number-back s h) ∙ ap numberOf e ∙ number-back t g
 
 report-word : (r : Report) → r .status ≤ 5 → statusWord (reportLine r) ≡ wordOf (r .status)
 unfolding reportLine untilSpace afterSpace
 report-word r h = word-ends (r .status) h _
+
+pub words-tell : (r q : Report) → r .status ≤ 5 → q .status ≤ 5 → (statusWord (reportLine r) ≡ statusWord (reportLine q)) ↔ (r .status ≡ q .status)
+words-tell r q h g = (
+  (λ e. words-differ (r .status) (q .status) h g (sym (report-word r h) ∙ e ∙ report-word q g)),
+  (λ e. report-word r h ∙ ap wordOf e ∙ sym (report-word q g)),
+)
 
 report-report : (r : Report) → isReport (reportLine r) ≡ true
 unfolding reportLine untilSpace sameText
@@ -236,7 +251,7 @@ module _ (e : Equipment) (st : Settings) (ok : settingsAccepted st ≡ true) whe
     tripped-word h p = ap wordOf (tripped-status e st h p)
 
     word-tripped : (h : History) → wordOf (historyStatus e st h) ≡ trippedWord → serving e st h ≡ false
-    word-tripped h p = tripped-of e st h (tripped-only (historyStatus e st h) (status-top e st h) p)
+    word-tripped h p = tripped-of e st h (words-differ (historyStatus e st h) 0 (status-top e st h) (omega arith) p)
 
     word-now : (k : ℕ) (x : Slice) → SampleAt ls k x → statusWord (getD texts k []) ≡ wordOf (historyStatus e st (x ∷ before k))
     word-now k x a = ap statusWord (reported k x a) ∙ shown-word x (before k)
