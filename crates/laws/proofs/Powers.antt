@@ -2,23 +2,21 @@
 -- Assumes nothing.
 use mathlib.Core.Path.{_≡_, refl, sym, ap, _∙_, subst}
 use mathlib.Core.Bool.{Bool, true, false, cond}
-use mathlib.Core.Logic.{_⊎_, inl, inr}
+use mathlib.Core.Logic.{inl, inr}
 use mathlib.Core.List.{List, [], _∷_}
 use Prim.Native.Nat.{ℕ, zero, suc, _+_, _-_, _*_, _/_, _≤_, _<_}
 use native.Mathlib.Nat.{mul-comm, zero-div, mul-div-le, lt-mul-div-succ, le-refl, le-of-suc-le-suc, not-suc-le-zero}
 use native.Mathlib.Decide.{decLe}
 use native.Mathlib.Omega.{arith}
-use borrow.Author.Tests.{le-leb, lt-leb, leb-true, leb-false, ltb-true, ltb-false}
+use borrow.Author.Tests.{le-leb, lt-leb, leb-true, ltb-true, ltb-false}
 use lib.Dec.{T, leb, ltb}
 use lib.IntN.{ℤ, pos, negsuc, negℤ, natAbs, _+ℤ_, _-ℤ_, _*ℤ_, negℤ-negℤ, negℤ-+ℤ, +ℤ-comm, +ℤ-idr, +ℤ-negℤ-cancel, *ℤ-zero}
 use lib.ListN.{length}
 use lib.Signed.{quotZ, leZ, leZ-yes, _≤ℤ_}
-use Rattle.rules.specs.Settings.{settingsAccepted}
 use Rattle.rules.specs.Curves.{between, curveFrom, curve, nameplate}
 use Rattle.rules.specs.declared.Point.{Point}
-use Rattle.rules.specs.declared.Settings.{Settings}
 use Rattle.claims.specs.Powers.{LargestBeside, pointAt, RisingPoints, Between, CutTowardZero, OnTheLine, FollowsPoints}
-use Rattle.power.specs.Points.{RisesFrom, Rises}
+use Rattle.power.specs.Points.{Rises}
 use Rattle.power.proofs.Magnitude.{abs-quot}
 use Rattle.power.proofs.Shares.{right-power, share-le, quot-neg}
 use Rattle.power.proofs.NameplateLaws.{used-small, nameplate-root}
