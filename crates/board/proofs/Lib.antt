@@ -1,1 +1,3 @@
 pub mod Moving
+pub mod Answering
+pub mod Running

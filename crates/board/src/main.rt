@@ -1,16 +1,21 @@
-// The program `board`: spec 10. A loop over read, respond and write; what is written for which input is
-// `respond`'s contract and the transcript law.
+// The program `board`: spec 10. A loop over read, respond and write: what was handed to the writing is the transcript of what was read.
 ghost use mathlib.Core.Path.{_≡_};
 ghost use mathlib.Core.Bool.{true, _&&_};
-ghost use Prim.Native.Nat.{_+_, _-_, _≤_, _<_};
+ghost use Prim.Native.Nat.{_+_, _*_, _-_, _≤_, _<_};
 ghost use lib.ListN.{length, take, drop};
-ghost use Rattle.program.specs.Responses.{lineRoom, longest};
-use libc::STDIN_FILENO;
-use libc::STDOUT_FILENO;
+ghost use Rattle.rules.specs.Regions.{ourEquipment};
+ghost use Rattle.program.specs.Responses.{longest};
+ghost use Rattle.board.specs.Loop.{outRoom, Talks, Speaks, Answers, Runs};
+
+mod stdio;
+
 use program::State;
 use respond::respond;
 use respond::start;
-use respond::within_budget;
+use stdio::Handed;
+use stdio::Input;
+use stdio::hand_over;
+use stdio::read_to;
 
 fn both(a: bool, b: bool) -> bool
     ensures { λ r. ⌜ r ≡ (a && b) ⌝ }
@@ -18,55 +23,67 @@ fn both(a: bool, b: bool) -> bool
     if a { b } else { false }
 }
 
-// After a block: the state, the place of the first byte that is not taken, and whether there is more to do.
+// After a call of `respond`: the state, how many bytes it took, how far the writing is, and whether all is done.
+struct Spoken {
+    state: State,
+    taken: usize,
+    handed: Handed,
+    done: bool,
+}
+
+// One call of `respond`, and what it wrote handed over.
+fn say(q: State, block: &[u8], last: bool, out: &mut [u8], before: Handed) -> Spoken
+    requires { ⌜ (length (now out) ≡ outRoom) × (Talks ourEquipment last q (now block) before) ⌝ }
+    requires { ⌜ before .bytes + outRoom < 18446744073709551616 ⌝ }
+    ensures { λ r. ⌜ Speaks ourEquipment q (now (block .entry)) last before r ⌝ }
+{
+    let r = respond(q, block, last, out);
+    let n = r.written;
+    let handed = hand_over(&out[0..n], q, block, before);
+    let next = r.state;
+    Spoken {
+        state: next,
+        taken: r.taken,
+        handed,
+        done: r.done,
+    }
+}
+
+// After a block: the state, the place of the first byte that is not taken, how far the writing is, and whether there is more to do.
 struct Answered {
     state: State,
     at: usize,
+    handed: Handed,
     going: bool,
 }
 
-// The answers to a block's lines, written out each time that the buffer is full or the block is handled. A write that fails ends the
+// The answers to a block's lines, handed over each time that the buffer is full or the block is handled. A write that fails ends the
 // program.
-fn answer(q: State, block: &[u8], last: bool, out: &mut [u8]) -> Answered
-    requires { ⌜ lineRoom ≤ length (now out) ⌝ }
-    ensures { λ r. ⌜ r .at ≤ length (now (block .entry)) ⌝ }
-    ensures { λ r. ⌜ (r .going ≡ true → length (now (block .entry)) - r .at ≤ longest) ⌝ }
+fn answer(q: State, block: &[u8], last: bool, out: &mut [u8], before: Handed) -> Answered
+    requires { ⌜ (length (now out) ≡ outRoom) × (Talks ourEquipment last q (now block) before) ⌝ }
+    requires { ⌜ before .bytes + outRoom * (length (now block) + 1) < 18446744073709551616 ⌝ }
+    ensures { λ r. ⌜ Answers ourEquipment q (now (block .entry)) last before r ⌝ }
 {
     let end = block.len();
     let mut state = q;
     let mut at = 0;
+    let mut handed = before;
     let mut going = true;
     let mut more = true;
     while more {
-        let r = respond(state, &block[at..end], last, out);
-        let n = r.written;
+        let r = say(state, &block[at..end], last, out, handed);
         let taken = r.taken;
-        let put = io::write_all(STDOUT_FILENO, &out[0..n]);
         state = r.state;
+        handed = r.handed;
         at += taken;
-        going = both(put, !r.done);
+        going = both(handed.put(), !r.done);
         more = both(going, 0 < taken);
     }
-    Answered { state, at, going }
-}
-
-// How many bytes came, none at the input's end, and whether the read failed.
-struct Got {
-    bytes: usize,
-    failed: bool,
-}
-
-// One read to a place of the buffer, which is not full, of no more bytes than the budget.
-fn read_to(buf: &mut [u8], have: usize, budget: u64) -> Got
-    requires { ⌜ have < length (now buf) ⌝ }
-    ensures { λ r. ⌜ (have + r .bytes ≤ length (now (buf .entry))) × (r .bytes ≤ budget) ⌝ }
-{
-    let end = have + within_budget(buf.len() - have, budget);
-    let got = libc::read(STDIN_FILENO, &mut buf[have..end]);
-    let bytes = io::count(got, &buf[have..end]);
-    Got {
-        bytes,
-        failed: got < 0,
+    Answered {
+        state,
+        at,
+        handed,
+        going,
     }
 }
 
@@ -84,27 +101,48 @@ fn to_front(buf: &mut [u8], from: usize, end: usize) -> usize
     n
 }
 
+// How a run ended: the state, how many bytes are left in the buffer, and how far reading and writing are.
+struct Ran {
+    state: State,
+    have: usize,
+    input: Input,
+    handed: Handed,
+}
+
 // Blocks of input until its end, or until all is done: no more than 10^12 bytes are read. No more than 128 bytes wait for their line
 // feed, so there is always room to read to.
-fn run(buf: &mut [u8], out: &mut [u8])
-    requires { ⌜ (longest < length (now buf)) × (lineRoom ≤ length (now out)) ⌝ }
+fn run(buf: &mut [u8], out: &mut [u8]) -> Ran
+    requires { ⌜ (longest < length (now buf)) × (length (now out) ≡ outRoom) ⌝ }
+    ensures { λ r. ⌜ Runs ourEquipment (now (buf .exit)) r ⌝ }
 {
     let mut state = start();
     let mut have = 0;
-    let mut budget: u64 = 1000000000000;
+    let mut input = Input::unread();
+    let mut handed = Handed::unsaid();
     let mut going = true;
     while going {
-        let got = read_to(buf, have, budget);
-        if got.failed {
-            return;
+        input = read_to(buf, have, state, handed, input);
+        if input.failed() {
+            return Ran {
+                state,
+                have,
+                input,
+                handed,
+            };
         }
-        let bytes = got.bytes;
+        let bytes = input.bytes();
         let end = have + bytes;
-        let a = answer(state, &buf[0..end], bytes == 0, out);
+        let a = answer(state, &buf[0..end], bytes == 0, out, handed);
         state = a.state;
         have = to_front(buf, a.at, end);
-        budget -= bytes as u64;
-        going = both(a.going, 0 < bytes);
+        handed = a.handed;
+        going = a.going;
+    }
+    Ran {
+        state,
+        have,
+        input,
+        handed,
     }
 }
 

@@ -7,3 +7,4 @@ pub mod Transcripts
 pub mod Cuts
 pub mod Responding
 pub mod Sessions
+pub mod Standing

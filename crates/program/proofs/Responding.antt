@@ -13,6 +13,7 @@ use lib.Seq.{take-nil, take-all, take-take}
 use Rattle.rules.specs.Samples.{Equipment}
 use Rattle.rules.specs.Text.{firstLine, hasFeed, afterLine}
 use Rattle.rules.specs.Transcripts.{linesIn, answersFrom, inputEnd}
+use Rattle.basics.proofs.Bools.{neither}
 use Rattle.program.specs.States.{Fit, isDone, readsSheet}
 use Rattle.program.specs.Saying.{Said, said, resume}
 use Rattle.program.specs.Responses.{lineRoom, longest, stops, andSaid, dropped, handled, budget, respondOf}
@@ -160,16 +161,23 @@ module _ (e : Equipment) (q : State) (block : List ℕ) (last : Bool) (size : �
       by false true = refl
       by false false = refl
 
-  -- where there is room for a line and all is not done, no more than 128 bytes stand there
-  pub nothing-taken : lineRoom ≤ size → isDone (answer .state) ≡ false → answer .state .taken - q .taken ≡ 0 → length block ≤ longest
-  nothing-taken roomy going none = by-done (isDone q) refl (hasFeed s) refl ends refl
+  -- where there is room for a line and all is not done, the input does not end there, no whole line stands there, and no more than 128 bytes
+  pub nothing-left : lineRoom ≤ size → isDone (answer .state) ≡ false → answer .state .taken - q .taken ≡ 0
+      → (last ≡ false) × (hasFeed block ≡ false) × (length block ≤ longest)
+  nothing-left roomy going none = by-done (isDone q) refl (hasFeed s) refl ends refl
     where
-      by-done : (b : Bool) → isDone q ≡ b → (f : Bool) → hasFeed s ≡ f → (k : Bool) → ends ≡ k → length block ≤ longest
+      by-done : (b : Bool) → isDone q ≡ b → (f : Bool) → hasFeed s ≡ f → (k : Bool) → ends ≡ k
+          → (last ≡ false) × (hasFeed block ≡ false) × (length block ≤ longest)
       by-done true p f r k t = absurd (false≢true (sym going ∙ ap (λ (h : Said). isDone (h .state)) (done-stays p) ∙ p))
       by-done false p true r k t = absurd (omega (arith, line-taken p roomy r))
       by-done false p false r true t = absurd (false≢true (sym going ∙ tail-closed p roomy r t))
       by-done false p false r false t =
-          omega (arith, left-short going (omega (arith, ap length (quiet r t))), ap (λ (n : ℕ). length (drop n block)) none)
+          let room : length (answer .text) + lineRoom ≤ size = omega (arith, ap length (quiet r t)) in
+          let here : drop (answer .state .taken - q .taken) block ≡ block = ap (λ (n : ℕ). drop n block) none in
+          (neither last (leb (budget q) (length block)) t .0, sym (ap hasFeed here) ∙ left-unfed going room, omega (arith, left-short going room, ap length here))
+
+  pub nothing-taken : lineRoom ≤ size → isDone (answer .state) ≡ false → answer .state .taken - q .taken ≡ 0 → length block ≤ longest
+  nothing-taken roomy going none = nothing-left roomy going none .2
 
   -- ---- among the samples
 

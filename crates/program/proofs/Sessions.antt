@@ -250,6 +250,15 @@ module _ (e : Equipment) where
   at-end : (cs : List Delivery) (sizes : List ℕ) → Ended (ending e (after cs) sizes) (joined cs)
   at-end cs sizes = ended-ending (after cs) (joined cs) sizes (good-ended (after cs) (joined cs) (good cs))
 
+  -- what was said begins the transcript of what came, once the input has ended
+  pub begins-ended : (cs : List Delivery) (sizes : List ℕ)
+      → transcript e (joined cs)
+      ≡ ending e (after cs) sizes .text ++ drop (length (ending e (after cs) sizes .text)) (transcript e (joined cs))
+  begins-ended cs sizes =
+      let k = ending e (after cs) sizes in
+      let says = at-end cs sizes .says in
+      says ∙ ap (λ (l : List ℕ). k .text ++ l) (sym (ap (drop (length (k .text))) says ∙ drop-append-seam (k .text) (still k [])))
+
   nothing-more : (k : Session) (more : List ℕ) → isDone (k .state) ≡ true → k .text ++ still k more ≡ k .text
   nothing-more k more p = rw (done-resume e (k .state) (take (budget (k .state)) (k .left ++ more)) p) (append-nil (k .text))
 

@@ -2,3 +2,4 @@ pub mod States
 pub mod Saying
 pub mod Responses
 pub mod Sessions
+pub mod Standing

@@ -1,0 +1,123 @@
+-- Spec 10.1, 10.9, 10.12: what the program's loop says of a read, of the answers to a block, and of a whole run.
+-- Assumes nothing.
+use mathlib.Core.Path.{_≡_}
+use mathlib.Core.Bool.{Bool, true, false}
+use mathlib.Core.List.{List, [], _++_}
+use Prim.Native.Nat.{ℕ, _+_, _*_, _-_, _≤_, min}
+use lib.IntN.{ℤ, pos}
+use lib.ListN.{length, take, drop}
+use lib.Signed.{ltZ}
+use Rattle.io.specs.Counts.{clamped}
+use Rattle.rules.specs.Samples.{Equipment}
+use Rattle.rules.specs.Text.{hasFeed}
+use Rattle.rules.specs.Transcripts.{inputEnd, transcript}
+use Rattle.program.specs.States.{isDone}
+use Rattle.program.specs.Responses.{longest, respondOf}
+use Rattle.program.specs.Standing.{Standing, called}
+use Rattle.program.specs.declared.State.{State}
+use Rattle.board.specs.declared.stdio.Input.{Input}
+use Rattle.board.specs.declared.stdio.Handed.{Handed}
+use Rattle.board.specs.declared.Spoken.{Spoken}
+use Rattle.board.specs.declared.Answered.{Answered}
+use Rattle.board.specs.declared.Ran.{Ran}
+
+-- ---- reading
+
+-- before the first read, 10^12 bytes may be read
+abbrev pub unread : Input
+unread = record { budget = inputEnd; asked = 0; answer = pos 0; bytes = 0 }
+
+-- after a read to a place behind which there is this room, to which C answered a: as many bytes were asked for as there is room for and may
+-- be read; as many came as C says, and no more than were asked for
+abbrev pub readAfter : Input → ℕ → ℤ → Input
+readAfter i room a =
+    record {
+      budget = i .budget - clamped a (min (i .budget) room);
+      asked = min (i .budget) room;
+      answer = a;
+      bytes = clamped a (min (i .budget) room);
+    }
+
+-- a negative answer is a failure; any other that brings no bytes, where some were asked for, is the input's end
+abbrev pub readFailed : Input → Bool
+readFailed i = ltZ (i .answer) (pos 0)
+
+-- ---- writing
+
+-- before the first write
+abbrev pub unsaid : Handed
+unsaid = record { bytes = 0; put = true }
+
+-- a session stands at this state with these bytes left; all that it has said is handed over, and no write failed
+pub record Talks (e : Equipment) (ended : Bool) (q : State) (left : List ℕ) (handed : Handed) : Type 0 where
+  pub stands : Standing e ended q left (handed .bytes)
+  pub well : handed .put ≡ true
+
+-- when a read is made: such a session, to which as many bytes came as were read and with no whole line left; and no read failed
+pub record Waits (e : Equipment) (q : State) (left : List ℕ) (handed : Handed) (before : Input) : Type 0 where
+  pub talks : Talks e false q left handed
+  pub read : length (talks .stands .input) + before .budget ≡ inputEnd
+  pub unfed : hasFeed left ≡ false
+  pub well : readFailed before ≡ false
+
+-- the size of the buffer that each call of `respond` is lent
+abbrev pub outRoom : ℕ
+outRoom = 131072
+
+-- when a text is handed to the writing: such a session, and the text is what a call of `respond` writes for its state and block
+pub record Says (e : Equipment) (q : State) (block : List ℕ) (before : Handed) (text : List ℕ) : Type 0 where
+  pub last : Bool
+  pub talks : Talks e last q block before
+  pub is : text ≡ respondOf e q block last outRoom .text
+
+-- one call of `respond`, and what it wrote handed over
+pub record Speaks (e : Equipment) (q : State) (block : List ℕ) (last : Bool) (before : Handed) (r : Spoken) : Type 0 where
+  pub state : r .state ≡ respondOf e q block last outRoom .state
+  pub taken : r .taken ≡ respondOf e q block last outRoom .state .taken - q .taken
+  pub inside : r .taken ≤ length block
+  pub said : r .handed .bytes ≡ before .bytes + length (respondOf e q block last outRoom .text)
+  pub few : r .handed .bytes ≤ before .bytes + outRoom
+  pub done : r .done ≡ isDone (r .state)
+
+-- ---- the answers to a block
+
+pub record Answers (e : Equipment) (q : State) (block : List ℕ) (last : Bool) (before : Handed) (r : Answered) : Type 0 where
+  -- the state, what is left of the block and what was said are those of so many calls of `respond`
+  pub calls : ℕ
+  pub text : List ℕ
+  pub is : called e last outRoom calls (record { state = q; left = block; text = [] }) ≡ record { state = r .state; left = drop (r .at) block; text = text }
+  pub inside : r .at ≤ length block
+  -- what was said was handed over
+  pub said : r .handed .bytes ≡ before .bytes + length text
+  pub few : r .handed .bytes ≤ before .bytes + outRoom * (r .at + 1)
+  -- where there is more to do: no write failed, the input has not ended, every whole line is answered, and no more than 128 bytes wait
+  pub well : r .going ≡ true → r .handed .put ≡ true
+  pub coming : r .going ≡ true → last ≡ false
+  pub unfed : r .going ≡ true → hasFeed (drop (r .at) block) ≡ false
+  pub short : r .going ≡ true → length (drop (r .at) block) ≤ longest
+  -- where there is not: a write failed, or all is done
+  pub stops : r .going ≡ false → r .handed .put ≡ true → isDone (r .state) ≡ true
+
+-- ---- a run
+
+-- with `buffer` what stands in the program's buffer at the end
+pub record Runs (e : Equipment) (buffer : List ℕ) (r : Ran) : Type 0 where
+  -- whether `respond` was told that the input has ended
+  pub ended : Bool
+  -- a session stands at the state with what is left in the buffer, and all that it has said is handed over; its input is the bytes that the
+  -- reads left in the buffer, in their order
+  pub stands : Standing e ended (r .state) (take (r .have) buffer) (r .handed .bytes)
+  -- all of them, and no more than 10^12
+  pub read : length (stands .input) + r .input .budget ≡ inputEnd
+  pub bytes : r .input .bytes ≡ clamped (r .input .answer) (r .input .asked)
+  -- `respond` was told of the end only where the last read went well and brought none, though it had asked for some unless all 10^12 bytes
+  -- had come
+  pub end-read : ended ≡ true → readFailed (r .input) ≡ false
+  pub end-none : ended ≡ true → r .input .bytes ≡ 0
+  pub end-asked : ended ≡ true → r .input .asked ≡ 0 → length (stands .input) ≡ inputEnd
+  -- what was handed over begins the transcript of what was read, and of whatever could have come after it where the input did not end
+  pub begins : (more : List ℕ) → (ended ≡ true → more ≡ [])
+      → transcript e (stands .input ++ more) ≡ stands .text ++ drop (length (stands .text)) (transcript e (stands .input ++ more))
+  -- where no read and no write failed, all is done, and what was handed over is the transcript of what was read
+  pub done : readFailed (r .input) ≡ false → r .handed .put ≡ true → isDone (r .state) ≡ true
+  pub all : readFailed (r .input) ≡ false → r .handed .put ≡ true → stands .text ≡ transcript e (stands .input)

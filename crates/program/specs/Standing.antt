@@ -1,0 +1,35 @@
+-- Spec 10.13: where a session stands after some calls of `respond`, and further calls from there.
+-- Assumes nothing.
+use mathlib.Core.Path.{_≡_}
+use mathlib.Core.Bool.{Bool, false}
+use mathlib.Core.List.{List, []}
+use Prim.Native.Nat.{ℕ, zero, suc}
+use lib.ListN.{length}
+use Rattle.rules.specs.Samples.{Equipment}
+use Rattle.program.specs.Sessions.{Session, Delivery, opened, delivered, during, ending, joined}
+use Rattle.program.specs.declared.State.{State}
+
+-- calls from `opened` on lead to the session k: the bytes that came before them are `input`, and no call was told that the input has
+-- ended unless `ended`
+pub record Reached (e : Equipment) (input : List ℕ) (ended : Bool) (k : Session) : Type 0 where
+  pub deliveries : List Delivery
+  pub sizes : List ℕ
+  pub came : joined deliveries ≡ input
+  pub coming : ended ≡ false → sizes ≡ []
+  pub is : ending e (during e opened deliveries) sizes ≡ k
+
+-- such a session has this state and these bytes left, and has said so many bytes
+pub record Standing (e : Equipment) (ended : Bool) (q : State) (left : List ℕ) (said : ℕ) : Type 0 where
+  pub input : List ℕ
+  pub text : List ℕ
+  pub reached : Reached e input ended (record { state = q; left = left; text = text })
+  pub all : said ≡ length text
+
+-- a call before which no bytes come
+abbrev pub again : ℕ → Delivery
+again size = record { bytes = []; size = size }
+
+-- n such calls, one after the other, each with a buffer of this size
+unfoldable pub called : Equipment → Bool → ℕ → ℕ → Session → Session
+called e last size zero k = k
+called e last size (suc n) k = delivered e last (called e last size n k) (again size)
