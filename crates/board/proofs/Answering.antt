@@ -1,9 +1,9 @@
 -- The loop of `answer`: so many calls of `respond`, and what they wrote handed over.
 -- Assumes nothing.
-use mathlib.Core.Path.{_≡_, refl, sym, ap, _∙_, subst}
+use mathlib.Core.Path.{_≡_, refl, sym, ap, _∙_}
 use mathlib.Core.Bool.{Bool, true, false, not, _&&_, false≢true}
 use mathlib.Core.List.{List, [], _++_, append-nil}
-use Prim.Native.Nat.{ℕ, zero, suc, _+_, _*_, _-_, _≤_}
+use Prim.Native.Nat.{ℕ, suc, _+_, _*_, _-_, _≤_}
 use native.Mathlib.Omega.{arith}
 use borrow.Author.Tests.{ltb-true, ltb-false, not-true}
 use lib.Dec.{ltb}
@@ -23,7 +23,7 @@ use Rattle.program.proofs.Responding.{nothing-left}
 use Rattle.program.proofs.Standing.{reached-fit, standing-called}
 use Rattle.respond.specs.Answering.{Responds}
 use Rattle.respond.specs.declared.Responded.{Responded}
-use Rattle.board.specs.Loop.{Talks, Says, Speaks, outRoom, Answers}
+use Rattle.board.specs.Loop.{Talks, Due, Says, outRoom, Answers}
 use Rattle.board.specs.declared.stdio.Handed.{Handed}
 use Rattle.board.specs.declared.Spoken.{Spoken}
 use Rattle.board.specs.declared.Answered.{Answered}
@@ -42,11 +42,11 @@ front-is {d} {d′} {x} {n} w = ap (take (n - 0)) (w .bytes) ∙ take-at x (drop
 pub lent-length : {d d′ x : List ℕ} {n : ℕ} → Wrote d 0 d′ n x → length (take (n - 0) d′) ≡ n
 lent-length w = omega (arith, ap length (front-is w), w .after)
 
-pub speaks : (e : Equipment) (q : State) (block : List ℕ) (last : Bool) (before : Handed) (d d′ : List ℕ) → length d ≡ outRoom
+pub says : (e : Equipment) (q : State) (block : List ℕ) (last : Bool) (before : Handed) (d d′ : List ℕ) → length d ≡ outRoom
     → (r : Responded) → Responds e q block last d d′ r → r .taken ≤ length block → r .written ≤ length d
     → (h : Handed) → h .bytes ≡ before .bytes + length (take (r .written - 0) d′)
-    → Speaks e q block last before (record { state = r .state; taken = r .taken; handed = h; done = r .done })
-speaks e q block last before d d′ n r c inside most h adds =
+    → Says e q block last before (record { state = r .state; taken = r .taken; handed = h; done = r .done })
+says e q block last before d d′ n r c inside most h adds =
     let size = ap (respondOf e q block last) n in
     let lent = lent-length (c .written) in
     record {
@@ -58,9 +58,9 @@ speaks e q block last before d d′ n r c inside most h adds =
       done = c .done;
     }
 
-pub says : (e : Equipment) (q : State) (block : List ℕ) (last : Bool) (before : Handed) (d d′ : List ℕ) → length d ≡ outRoom
-    → (r : Responded) → Responds e q block last d d′ r → Talks e last q block before → Says e q block before (take (r .written - 0) d′)
-says e q block last before d d′ n r c talks =
+pub due : (e : Equipment) (q : State) (block : List ℕ) (last : Bool) (before : Handed) (d d′ : List ℕ) → length d ≡ outRoom
+    → (r : Responded) → Responds e q block last d d′ r → Talks e last q block before → Due e q block before (take (r .written - 0) d′)
+due e q block last before d d′ n r c talks =
     record { last = last; talks = talks; is = front-is (c .written) ∙ ap (λ (k : ℕ). respondOf e q block last k .text) n }
 
 -- ---- the loop
@@ -101,8 +101,8 @@ module _ (e : Equipment) (q : State) (block : List ℕ) (last : Bool) (before : 
         stops = λ m. absurd (false≢true (sym m));
       }
 
-  module _ (talks : Talks e last q block before) {state : State} {at : ℕ} {handed : Handed} {going more : Bool} (g : Going state at handed going more) (m : more ≡ true)
-      (part : List ℕ) (p : part ≡ drop at block) where
+  module _ (talks : Talks e last q block before) {state : State} {at : ℕ} {handed : Handed} {going more : Bool}
+      (g : Going state at handed going more) (m : more ≡ true) (part : List ℕ) (p : part ≡ drop at block) where
     -- where the session stands
     pub talks-here : Talks e last state part handed
     talks-here =
@@ -111,7 +111,7 @@ module _ (e : Equipment) (q : State) (block : List ℕ) (last : Bool) (before : 
 
     -- ---- one call more
 
-    module _ (r : Spoken) (c : Speaks e state part last handed r) where
+    module _ (r : Spoken) (c : Says e state part last handed r) where
       abbrev said : Said
       said = respondOf e state part last outRoom
 

@@ -1,12 +1,11 @@
 -- The loop of `run`: reads, the answers to what they bring, and what is left at the front.
 -- Assumes nothing.
-use mathlib.Core.Path.{_≡_, refl, sym, ap, ap₂, _∙_, subst}
+use mathlib.Core.Path.{_≡_, refl, sym, ap, _∙_}
 use mathlib.Core.Bool.{Bool, true, false, false≢true}
 use mathlib.Core.List.{List, [], _++_}
 use Prim.Native.Nat.{ℕ, _+_, _*_, _-_, _≤_, _<_, min}
 use native.Mathlib.Omega.{arith}
-use borrow.Author.Tests.{eqb-true, eqb-false, ltb-true}
-use lib.Dec.{eqb}
+use borrow.Author.Tests.{ltb-true}
 use lib.IntN.{ℤ, pos, negsuc}
 use lib.ListN.{length, take, drop, length-append, length-drop}
 use lib.Seq.{length-take-le, take-add}
@@ -15,13 +14,13 @@ use Rattle.io.specs.Counts.{clamped}
 use Rattle.rules.specs.Samples.{Equipment}
 use Rattle.rules.specs.Text.{hasFeed}
 use Rattle.rules.specs.Transcripts.{inputEnd}
-use Rattle.program.specs.States.{start, isDone}
+use Rattle.program.specs.States.{start}
 use Rattle.program.specs.Responses.{longest}
 use Rattle.program.specs.Sessions.{Session}
 use Rattle.program.specs.Standing.{Reached, Standing}
 use Rattle.program.specs.declared.State.{State}
 use Rattle.program.proofs.Cuts.{drop-take}
-use Rattle.program.proofs.Standing.{reached-opened, reached-came, reached-called, reached-begins, reached-transcript}
+use Rattle.program.proofs.Standing.{reached-opened, reached-came, reached-called, reached-transcript}
 use Rattle.board.specs.Loop.{unread, readAfter, readFailed, Talks, Waits, unsaid, outRoom, Answers, Runs}
 use Rattle.board.specs.declared.stdio.Input.{Input}
 use Rattle.board.specs.declared.stdio.Handed.{Handed}
@@ -112,7 +111,6 @@ module _ {e : Equipment} {state : State} {have : ℕ} {i : Input} {handed : Hand
         end-read = λ q. absurd (false≢true q);
         end-none = λ q. absurd (false≢true q);
         end-asked = λ q. absurd (false≢true q);
-        begins = reached-begins e (t .waits .talks .stands .reached);
         done = λ q. absurd (false≢true (sym q ∙ p));
         all = λ q. absurd (false≢true (sym q ∙ p));
       }
@@ -178,7 +176,7 @@ module _ {e : Equipment} {state : State} {have : ℕ} {i : Input} {handed : Hand
     pub budget-less : (last ≡ false → 1 ≤ n) → r .going ≡ true → i′ .budget < i .budget
     budget-less comes p = omega (arith, comes (answers .coming p), within, t .budget)
 
-    module _ (ends : last ≡ true → n ≡ 0) (comes : last ≡ false → 1 ≤ n) (well : readFailed i′ ≡ false) (b′ : List ℕ) (same : length b′ ≡ length b)
+    module _ (ends : last ≡ true → n ≡ 0) (comes : last ≡ false → 1 ≤ n) (well : readFailed i′ ≡ false) (b′ : List ℕ)
         (left : ℕ) (to : left ≡ have + n - r .at) (front : take left b′ ≡ take left (drop (r .at) b)) where
       left-is : drop (r .at) block ≡ take left b′
       left-is =
@@ -223,7 +221,6 @@ module _ {e : Equipment} {state : State} {have : ℕ} {i : Input} {handed : Hand
             end-read = λ q. well;
             end-none = λ q. sym is ∙ ends q;
             end-asked = λ q z. omega (arith, came-length, t .waits .read, ends q, t .asked, t .room);
-            begins = reached-begins e (stands .reached);
             done = λ q. answers .stops p;
             all = λ q w. reached-transcript e (stands .reached) (answers .stops p w);
           }

@@ -1,8 +1,10 @@
--- Spec 10.1, 10.9, 10.12: what the program's loop says of a read, of the answers to a block, and of a whole run.
+-- Spec 10.1, 10.9, 10.12: the program's loop. Before each read and each write a session of `respond` (program/specs/Standing.antt) stands where the
+-- program is, and so it does at the end. What no contract can say: that what a read leaves in the buffer is the input, and that what
+-- is lent to a write is written.
 -- Assumes nothing.
 use mathlib.Core.Path.{_≡_}
 use mathlib.Core.Bool.{Bool, true, false}
-use mathlib.Core.List.{List, [], _++_}
+use mathlib.Core.List.{List, []}
 use Prim.Native.Nat.{ℕ, _+_, _*_, _-_, _≤_, min}
 use lib.IntN.{ℤ, pos}
 use lib.ListN.{length, take, drop}
@@ -65,13 +67,13 @@ abbrev pub outRoom : ℕ
 outRoom = 131072
 
 -- when a text is handed to the writing: such a session, and the text is what a call of `respond` writes for its state and block
-pub record Says (e : Equipment) (q : State) (block : List ℕ) (before : Handed) (text : List ℕ) : Type 0 where
+pub record Due (e : Equipment) (q : State) (block : List ℕ) (before : Handed) (text : List ℕ) : Type 0 where
   pub last : Bool
   pub talks : Talks e last q block before
   pub is : text ≡ respondOf e q block last outRoom .text
 
 -- one call of `respond`, and what it wrote handed over
-pub record Speaks (e : Equipment) (q : State) (block : List ℕ) (last : Bool) (before : Handed) (r : Spoken) : Type 0 where
+pub record Says (e : Equipment) (q : State) (block : List ℕ) (last : Bool) (before : Handed) (r : Spoken) : Type 0 where
   pub state : r .state ≡ respondOf e q block last outRoom .state
   pub taken : r .taken ≡ respondOf e q block last outRoom .state .taken - q .taken
   pub inside : r .taken ≤ length block
@@ -82,13 +84,12 @@ pub record Speaks (e : Equipment) (q : State) (block : List ℕ) (last : Bool) (
 -- ---- the answers to a block
 
 pub record Answers (e : Equipment) (q : State) (block : List ℕ) (last : Bool) (before : Handed) (r : Answered) : Type 0 where
-  -- the state, what is left of the block and what was said are those of so many calls of `respond`
+  -- the state, what is left of the block and what was said are those of so many calls of `respond`, and what was said is handed over
   pub calls : ℕ
   pub text : List ℕ
   pub is : called e last outRoom calls (record { state = q; left = block; text = [] }) ≡ record { state = r .state; left = drop (r .at) block; text = text }
-  pub inside : r .at ≤ length block
-  -- what was said was handed over
   pub said : r .handed .bytes ≡ before .bytes + length text
+  pub inside : r .at ≤ length block
   pub few : r .handed .bytes ≤ before .bytes + outRoom * (r .at + 1)
   -- where there is more to do: no write failed, the input has not ended, every whole line is answered, and no more than 128 bytes wait
   pub well : r .going ≡ true → r .handed .put ≡ true
@@ -104,20 +105,17 @@ pub record Answers (e : Equipment) (q : State) (block : List ℕ) (last : Bool) 
 pub record Runs (e : Equipment) (buffer : List ℕ) (r : Ran) : Type 0 where
   -- whether `respond` was told that the input has ended
   pub ended : Bool
-  -- a session stands at the state with what is left in the buffer, and all that it has said is handed over; its input is the bytes that the
-  -- reads left in the buffer, in their order
+  -- a session stands at the state with what is left in the buffer, and has said as many bytes as were handed over
   pub stands : Standing e ended (r .state) (take (r .have) buffer) (r .handed .bytes)
-  -- all of them, and no more than 10^12
+  -- as many bytes came to it as were read, and no more than 10^12
   pub read : length (stands .input) + r .input .budget ≡ inputEnd
-  pub bytes : r .input .bytes ≡ clamped (r .input .answer) (r .input .asked)
   -- `respond` was told of the end only where the last read went well and brought none, though it had asked for some unless all 10^12 bytes
   -- had come
+  pub bytes : r .input .bytes ≡ clamped (r .input .answer) (r .input .asked)
   pub end-read : ended ≡ true → readFailed (r .input) ≡ false
   pub end-none : ended ≡ true → r .input .bytes ≡ 0
   pub end-asked : ended ≡ true → r .input .asked ≡ 0 → length (stands .input) ≡ inputEnd
-  -- what was handed over begins the transcript of what was read, and of whatever could have come after it where the input did not end
-  pub begins : (more : List ℕ) → (ended ≡ true → more ≡ [])
-      → transcript e (stands .input ++ more) ≡ stands .text ++ drop (length (stands .text)) (transcript e (stands .input ++ more))
-  -- where no read and no write failed, all is done, and what was handed over is the transcript of what was read
+  -- where no read and no write failed, all is done, and what the session has said is the transcript of what came to it; it begins the
+  -- transcript in any case (`StandingLaw`)
   pub done : readFailed (r .input) ≡ false → r .handed .put ≡ true → isDone (r .state) ≡ true
   pub all : readFailed (r .input) ≡ false → r .handed .put ≡ true → stands .text ≡ transcript e (stands .input)

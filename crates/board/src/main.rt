@@ -1,11 +1,12 @@
-// The program `board`: spec 10. A loop over read, respond and write: what was handed to the writing is the transcript of what was read.
+// The program `board`: spec 10. A loop over read, respond and write. What is handed to the writing is what a session of `respond` says that is
+// given what the reads left in the buffer: the transcript, unless a read or a write fails.
 ghost use mathlib.Core.Path.{_≡_};
 ghost use mathlib.Core.Bool.{true, _&&_};
 ghost use Prim.Native.Nat.{_+_, _*_, _-_, _≤_, _<_};
 ghost use lib.ListN.{length, take, drop};
 ghost use Rattle.rules.specs.Regions.{ourEquipment};
 ghost use Rattle.program.specs.Responses.{longest};
-ghost use Rattle.board.specs.Loop.{outRoom, Talks, Speaks, Answers, Runs};
+ghost use Rattle.board.specs.Loop.{outRoom, Talks, Says, Answers, Runs};
 
 mod stdio;
 
@@ -31,11 +32,11 @@ struct Spoken {
     done: bool,
 }
 
-// One call of `respond`, and what it wrote handed over.
+// One call of `respond`, and what it wrote handed over. The count of bytes handed over stays below 2^64.
 fn say(q: State, block: &[u8], last: bool, out: &mut [u8], before: Handed) -> Spoken
     requires { ⌜ (length (now out) ≡ outRoom) × (Talks ourEquipment last q (now block) before) ⌝ }
     requires { ⌜ before .bytes + outRoom < 18446744073709551616 ⌝ }
-    ensures { λ r. ⌜ Speaks ourEquipment q (now (block .entry)) last before r ⌝ }
+    ensures { λ r. ⌜ Says ourEquipment q (now (block .entry)) last before r ⌝ }
 {
     let r = respond(q, block, last, out);
     let n = r.written;

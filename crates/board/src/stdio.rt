@@ -6,7 +6,7 @@ ghost use mathlib.Core.Bool.{true, false};
 ghost use Prim.Native.Nat.{_+_, _-_, _≤_, _<_};
 ghost use lib.ListN.{length, take};
 ghost use Rattle.rules.specs.Regions.{ourEquipment};
-ghost use Rattle.board.specs.Loop.{unread, readAfter, readFailed, Waits, unsaid, Says};
+ghost use Rattle.board.specs.Loop.{unread, readAfter, readFailed, Waits, unsaid, Due};
 use libc::STDIN_FILENO;
 use libc::STDOUT_FILENO;
 use program::State;
@@ -96,7 +96,7 @@ pub fn read_to(buf: &mut [u8], have: usize, q: State, handed: Handed, before: In
 // A text goes to the writing: what a call of `respond` writes for this state and block, at which a session stands that has said as many
 // bytes as were handed over. State and block are there for the contract alone.
 pub fn hand_over(text: &[u8], q: State, block: &[u8], before: Handed) -> Handed
-    requires { ⌜ Says ourEquipment q (now block) before (now text) ⌝ }
+    requires { ⌜ Due ourEquipment q (now block) before (now text) ⌝ }
     requires { ⌜ before .bytes + length (now text) < 18446744073709551616 ⌝ }
     ensures { λ r. ⌜ r .bytes ≡ before .bytes + length (now (text .entry)) ⌝ }
 {

@@ -14,10 +14,11 @@ use Rattle.laws.proofs.Bits.{bits-unpacked, reports-items, two-histories-report
 use Rattle.laws.proofs.LentRecords.{reads-records}
 use Rattle.laws.proofs.Printed.{words-tell}
 use Rattle.laws.proofs.Alike.{step-alike}
-use Rattle.laws.proofs.Curves.{var-rises, watt-rises}
+use lib.Signed.{pos-natAbs}
+use Rattle.laws.proofs.Curves.{var-rises, watt-rises, watt-not-negatives}
 use Rattle.laws.proofs.OneCurve.{one-curve}
 use Rattle.laws.proofs.Powers.{nameplate-largest, curve-follows, rising-points}
-use Rattle.power.proofs.CurveLaws.{curve-small}
+use Rattle.power.proofs.CurveLaws.{curve-small, curve-nonNeg}
 use Rattle.power.proofs.PointLists.{powers-small}
 use Rattle.formats.proofs.Sheets.{sheet-read-back, sheet-written-out, one-reading, default-written}
 use Rattle.formats.proofs.Forms.{forms-read}
@@ -138,6 +139,7 @@ powerLaws =
       alone = one-curve;
       var-curve = λ st ok. curve-follows (st .var) (rising-points (st .var) (var-rises st ok));
       watt-curve = λ st ok. curve-follows (st .watt) (rising-points (st .watt) (watt-rises st ok));
+      watts = λ st ok v. pos-natAbs (curve (st .watt) v) (curve-nonNeg (st .watt) v (watt-not-negatives st ok));
       beside-vars = λ st ok v. nameplate-largest (curve (st .var) v) (curve-small 10000 (st .var) v (powers-small (st .var) (var-rises st ok)));
     }
 

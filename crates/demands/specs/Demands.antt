@@ -18,7 +18,7 @@ use mathlib.Core.List.{List, _∷_}
 use mathlib.Core.Option.{some}
 use Prim.Native.Nat.{ℕ, _*_, _≤_, _<_}
 use lib.ListN.{length}
-use lib.IntN.{ℤ, natAbs}
+use lib.IntN.{ℤ, pos, natAbs}
 use Rattle.rules.specs.Sensing.{lastCode, voltage}
 use Rattle.rules.specs.Settings.{settingsAccepted}
 use Rattle.rules.specs.Samples.{Slice, Equipment, sampleAccepted}
@@ -249,6 +249,8 @@ pub record PowerLaws : Type 0 where
   pub alone : (points : List Point) → 0 < length points → RisingPoints points → (f : ℕ → ℤ) → FollowsPoints points f → (v : ℕ) → f v ≡ curve points v
   pub var-curve : (st : Settings) → settingsAccepted st ≡ true → FollowsPoints (st .var) (curve (st .var))
   pub watt-curve : (st : Settings) → settingsAccepted st ≡ true → FollowsPoints (st .watt) (curve (st .watt))
+  -- spec 7.5: watts of an accepted sheet's curve are not negative, so that their magnitude (`wattCurve`) is the curve
+  pub watts : (st : Settings) → settingsAccepted st ≡ true → (v : ℕ) → pos (natAbs (curve (st .watt) v)) ≡ curve (st .watt) v
   pub beside-vars : (st : Settings) → settingsAccepted st ≡ true → (v : ℕ) → LargestBeside (curve (st .var) v) (nameplate (curve (st .var) v))
 
 -- The values of spec 14.1, one table: specs/Edges.antt.

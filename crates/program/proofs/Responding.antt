@@ -16,7 +16,7 @@ use Rattle.rules.specs.Transcripts.{linesIn, answersFrom, inputEnd}
 use Rattle.basics.proofs.Bools.{neither}
 use Rattle.program.specs.States.{Fit, isDone, readsSheet}
 use Rattle.program.specs.Saying.{Said, said, resume}
-use Rattle.program.specs.Responses.{lineRoom, longest, stops, andSaid, dropped, handled, budget, respondOf}
+use Rattle.program.specs.Responses.{lineRoom, longest, stops, andSaid, dropped, handled, budget, respondOf, closed}
 use Rattle.program.specs.declared.State.{State}
 use Rattle.program.proofs.Cuts.{take-both, rest-cut}
 use Rattle.program.proofs.Fitting.{fit-read}
@@ -100,6 +100,20 @@ module _ (e : Equipment) (q : State) (block : List ℕ) (last : Bool) (size : �
 
   pub done-stays : isDone q ≡ true → answer ≡ begun
   done-stays p = answer-is ∙ handled-stops e ends size begun (linesIn s) (rw p)
+
+  -- ---- before the input's end a begun line waits
+
+  pub begun-waits : ends ≡ false → hasFeed s ≡ false → q .overlong ≡ false → length s ≤ longest → answer ≡ begun
+  begun-waits p f o short =
+      answer-is ∙ handled-unfed e ends size begun s f
+      ∙ by (stops size begun) ends (q .overlong) (ltb longest (length s)) p o (le-ltb longest (length s) short)
+    where
+      by : (b k o l : Bool) → k ≡ false → o ≡ false → l ≡ false → cond b begun (cond k (closed begun s) (cond (o || l) (dropped begun s) begun)) ≡ begun
+      by true k o l p₁ p₂ p₃ = refl
+      by false false false false p₁ p₂ p₃ = refl
+      by false false false true p₁ p₂ p₃ = absurd (false≢true (sym p₃))
+      by false false true l p₁ p₂ p₃ = absurd (false≢true (sym p₂))
+      by false true o l p₁ p₂ p₃ = absurd (false≢true (sym p₁))
 
   -- ---- no room for a line, nothing is done
 

@@ -1,11 +1,12 @@
 -- The transcript law, for any equipment.
 -- Assumes nothing.
 use mathlib.Core.Path.{_≡_, refl, sym, ap, _∙_, subst}
-use mathlib.Core.Bool.{Bool, true, false, false≢true}
+use mathlib.Core.Bool.{Bool, true, false, false≢true, _||_}
 use mathlib.Core.List.{List, [], _∷_, _++_, append-assoc, append-nil}
 use Prim.Native.Nat.{ℕ, _-_, _≤_, _<_}
 use native.Mathlib.Omega.{arith}
-use borrow.Author.Tests.{ne-eqb}
+use borrow.Author.Tests.{ne-eqb, lt-leb}
+use lib.Dec.{leb}
 use lib.ListN.{length, take, drop, length-append, length-take, length-drop, take-append-drop}
 use lib.Seq.{take-all, take-at, drop-append-seam}
 use Rattle.rules.specs.Samples.{Equipment}
@@ -14,9 +15,10 @@ use Rattle.rules.specs.Sheets.{readSheet}
 use Rattle.rules.specs.Transcripts.{linesIn, inputEnd, transcriptOf, transcript}
 use Rattle.rules.specs.declared.Refusal.{Refusal}
 use Rattle.rules.specs.declared.SettingsCheck.{SettingsCheck}
-use Rattle.program.specs.States.{Fit, start, isDone}
+use Rattle.program.specs.States.{Fit, start, isDone, stopped, sensible, readState}
 use Rattle.program.specs.Saying.{Said, resume}
-use Rattle.program.specs.Responses.{lineRoom, budget, respondOf}
+use Rattle.program.specs.Responses.{lineRoom, longest, budget, respondOf}
+use Rattle.program.specs.declared.State.{State}
 use Rattle.program.specs.Sessions.{Session, Delivery, opened, delivered, during, ending, joined, cut, Roomy, TranscriptLaw}
 use Rattle.program.proofs.Fitting.{sensible-fit, fit-sensible}
 use Rattle.program.proofs.Resuming.{done-resume, resume-none}
@@ -24,7 +26,8 @@ use Rattle.program.proofs.Ending.{doneAfter, done-unfed}
 use Rattle.program.proofs.Framing.{plain-cut}
 use Rattle.program.proofs.Transcripts.{resume-start, known-ends}
 use Rattle.program.proofs.Responding.{s, ends, fit-after, says, took, finishes, answers-taken, left-unfed, left-short, taken-low, taken-high}
-use Rattle.program.proofs.Responding.{done-stays, no-room, line-taken, tail-closed}
+use Rattle.program.proofs.Handling.{handled-stops}
+use Rattle.program.proofs.Responding.{begun-waits, done-stays, no-room, line-taken, tail-closed}
 
 module _ (e : Equipment) where
   -- what is to be said of the input that is left
@@ -272,6 +275,18 @@ module _ (e : Equipment) where
       let plain : hasFeed (take (budget (k .state)) (k .left ++ [])) ≡ false = rw (append-nil (k .left)) (plain-cut (budget (k .state)) (k .left) left) in
       sym (done-unfed e (k .state) (take (budget (k .state)) (k .left ++ [])) plain) ∙ finished
 
+  senseless-is : (q : State) (block : List ℕ) (last : Bool) (size : ℕ) → sensible q ≡ false
+      → respondOf e q block last size ≡ record { state = stopped q 0; text = [] }
+  unfolding respondOf readState
+  senseless-is q block last size wild =
+      rw wild (handled-stops e (last || leb (budget q) (length block)) size (record { state = stopped q 0; text = [] }) (linesIn (take (budget q) block)) refl)
+
+  waits-is : (q : State) (block : List ℕ) (size : ℕ) → Fit q 0 → q .overlong ≡ false → length block < budget q → hasFeed block ≡ false
+      → length block ≤ longest → respondOf e q block false size ≡ record { state = q; text = [] }
+  waits-is q block size fit plain before unfed short =
+      let whole : take (budget q) block ≡ block = take-all (budget q) block (omega (arith, before)) in
+      begun-waits e q block false size fit (lt-leb (budget q) (length block) before) (rw whole unfed) plain (rw whole short)
+
   pub transcript-law : TranscriptLaw e
   transcript-law =
       record {
@@ -281,6 +296,9 @@ module _ (e : Equipment) where
         idle = λ q block last size fit small.
             let same = no-room e q block last size (sensible-fit q fit) small in
             (ap (λ (h : Said). h .text) same, ap (λ (h : Said). h .state) same);
+        senseless = λ q block last size wild. senseless-is q block last size wild;
+        finished = λ q block last size fit p. done-stays e q block last size (sensible-fit q fit) p;
+        waits = λ q block size fit plain before unfed short. waits-is q block size (sensible-fit q fit) plain before unfed short;
         progress = λ q block last size fit going roomy fed. line-taken e q block last size (sensible-fit q fit) going roomy fed;
         handles = λ q block last size fit going room.
             (left-unfed e q block last size (sensible-fit q fit) going room, left-short e q block last size (sensible-fit q fit) going room);

@@ -1,6 +1,6 @@
 -- Sessions that calls lead to: bytes that come, further calls, and what was said.
 -- Assumes nothing.
-use mathlib.Core.Path.{_≡_, refl, sym, ap, ap₂, _∙_, subst}
+use mathlib.Core.Path.{_≡_, refl, sym, ap, _∙_, subst}
 use mathlib.Core.Bool.{Bool, true, false, false≢true}
 use mathlib.Core.List.{List, [], _∷_, _++_, append-assoc, append-nil}
 use Prim.Native.Nat.{ℕ, zero, suc, _+_, _-_}
@@ -8,11 +8,11 @@ use native.Mathlib.Omega.{arith}
 use lib.ListN.{length, drop, length-append}
 use Rattle.rules.specs.Samples.{Equipment}
 use Rattle.rules.specs.Transcripts.{transcript}
-use Rattle.program.specs.States.{Fit, start, isDone, sensible}
+use Rattle.program.specs.States.{Fit, isDone, sensible}
 use Rattle.program.specs.Saying.{Said}
 use Rattle.program.specs.Responses.{respondOf}
-use Rattle.program.specs.Sessions.{Session, Delivery, opened, delivered, during, ending, joined, TranscriptLaw}
-use Rattle.program.specs.Standing.{Reached, Standing, again, called}
+use Rattle.program.specs.Sessions.{Session, Delivery, opened, delivered, during, ending, joined}
+use Rattle.program.specs.Standing.{Reached, Standing, StandingLaw, again, called}
 use Rattle.program.specs.declared.State.{State}
 use Rattle.program.proofs.Fitting.{sensible-fit}
 use Rattle.program.proofs.Responding.{no-room}
@@ -176,3 +176,9 @@ module _ (e : Equipment) where
         reached = reached-called size n k (s .reached) is;
         all = omega (arith, s .all, length-append (s .text) (k .text));
       }
+
+  -- ---- what sessions have said
+
+  pub standing-law : StandingLaw e
+  standing-law =
+      record { done = λ ended q left said k p. reached-transcript (k .reached) p; begins = λ ended q left said k more none. reached-begins (k .reached) more none }

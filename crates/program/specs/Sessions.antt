@@ -11,7 +11,7 @@ use Rattle.rules.specs.Sheets.{readSheet}
 use Rattle.rules.specs.Transcripts.{inputEnd, linesIn, answersFrom, transcript}
 use Rattle.rules.specs.declared.Refusal.{Refusal}
 use Rattle.rules.specs.declared.SettingsCheck.{SettingsCheck}
-use Rattle.program.specs.States.{start, isDone, sensible}
+use Rattle.program.specs.States.{start, isDone, stopped, sensible}
 use Rattle.program.specs.Responses.{budget, lineRoom, longest, respondOf}
 use Rattle.program.specs.declared.State.{State}
 
@@ -84,6 +84,15 @@ pub record TranscriptLaw (e : Equipment) : Type 0 where
   -- a call whose buffer has no room for a line writes nothing and takes nothing, at the input's end too: the state stays as it is
   pub idle : (q : State) (block : List ℕ) (last : Bool) (size : ℕ) → sensible q ≡ true → size < lineRoom
       → (respondOf e q block last size .text ≡ []) × (respondOf e q block last size .state ≡ q)
+  -- spec 10.15: a state that is not sensible is read as one where all is done: nothing is written and nothing taken
+  pub senseless : (q : State) (block : List ℕ) (last : Bool) (size : ℕ) → sensible q ≡ false
+      → respondOf e q block last size ≡ record { state = stopped q 0; text = [] }
+  -- spec 10.14: nothing is written or taken once all is done
+  pub finished : (q : State) (block : List ℕ) (last : Bool) (size : ℕ) → sensible q ≡ true → isDone q ≡ true
+      → respondOf e q block last size ≡ record { state = q; text = [] }
+  -- spec 10.14: of a line that is not being dropped, up to 128 bytes without a line feed wait untaken while the input goes on
+  pub waits : (q : State) (block : List ℕ) (size : ℕ) → sensible q ≡ true → q .overlong ≡ false → length block < budget q
+      → hasFeed block ≡ false → length block ≤ longest → respondOf e q block false size ≡ record { state = q; text = [] }
   -- a whole line at hand is taken, where there is room for one
   pub progress : (q : State) (block : List ℕ) (last : Bool) (size : ℕ) → sensible q ≡ true → isDone q ≡ false → lineRoom ≤ size
       → hasFeed (take (budget q) block) ≡ true

@@ -1,11 +1,13 @@
 -- Spec 10.13: where a session stands after some calls of `respond`, and further calls from there.
 -- Assumes nothing.
 use mathlib.Core.Path.{_≡_}
-use mathlib.Core.Bool.{Bool, false}
-use mathlib.Core.List.{List, []}
+use mathlib.Core.Bool.{Bool, true, false}
+use mathlib.Core.List.{List, [], _++_}
 use Prim.Native.Nat.{ℕ, zero, suc}
-use lib.ListN.{length}
+use lib.ListN.{length, drop}
 use Rattle.rules.specs.Samples.{Equipment}
+use Rattle.rules.specs.Transcripts.{transcript}
+use Rattle.program.specs.States.{isDone}
 use Rattle.program.specs.Sessions.{Session, Delivery, opened, delivered, during, ending, joined}
 use Rattle.program.specs.declared.State.{State}
 
@@ -24,6 +26,15 @@ pub record Standing (e : Equipment) (ended : Bool) (q : State) (left : List ℕ)
   pub text : List ℕ
   pub reached : Reached e input ended (record { state = q; left = left; text = text })
   pub all : said ≡ length text
+
+-- where all is done, such a session has said the transcript of its input; before, a beginning of it, and of whatever could come after it where
+-- the input has not ended
+pub record StandingLaw (e : Equipment) : Type 0 where
+  pub done : (ended : Bool) (q : State) (left : List ℕ) (said : ℕ) (k : Standing e ended q left said) → isDone q ≡ true → k .text ≡ transcript e (k .input)
+  pub begins : (ended : Bool) (q : State) (left : List ℕ) (said : ℕ) (k : Standing e ended q left said) (more : List ℕ) → (ended ≡ true → more ≡ [])
+      → transcript e (k .input ++ more) ≡ k .text ++ drop (length (k .text)) (transcript e (k .input ++ more))
+
+-- ---- further calls
 
 -- a call before which no bytes come
 abbrev pub again : ℕ → Delivery

@@ -1,6 +1,6 @@
 -- `board::answer` meets its contract, and ends: a turn that goes on has taken some bytes of the block.
 -- Assumes nothing.
-use mathlib.Core.Path.{_≡_, refl, sym, ap, _∙_}
+use mathlib.Core.Path.{_≡_, refl, ap, _∙_}
 use mathlib.Core.Bool.{Bool, cond, not, _&&_}
 use Prim.Native.Nat.{_+_, _-_}
 use native.Mathlib.Omega.{arith}
@@ -67,8 +67,9 @@ loop-less c =
     let block = now (r .before .before .before .before .before .before .before .args .block) in
     let taken = r .say .result .taken in
     let inside = ap length (rest-is block (w .at)) ∙ length-drop (w .at) block in
+    let some = took taken (c .both2 .result) (c .before .both .result) (c .both2 .ensures) in
     rw (r .before .before .before .loop-test .taken)
-    (less _ (c .both2 .result) (length block - w .at) (λ p. omega (arith, took taken (c .both2 .result) (c .before .both .result) (c .both2 .ensures) p, r .say .ensures .inside, inside)))
+    (less _ (c .both2 .result) (length block - w .at) (λ p. omega (arith, some p, r .say .ensures .inside, inside)))
 
 loop-again : tie.Need-loop-again Inv-loop μ-loop
 loop-again c =

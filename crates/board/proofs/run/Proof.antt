@@ -10,7 +10,8 @@ use lib.Dec.{eqb}
 use lib.ListN.{length}
 use Rattle.rules.specs.Regions.{ourEquipment}
 use Rattle.board.proofs.Moving.{less}
-use Rattle.board.proofs.Running.{Turning, turning-first, Brought, brought, ran-failed, end-inside, talks-block, room-to-count, at-inside, budget-less, turning-next}
+use Rattle.board.proofs.Running.{Turning, turning-first, Brought, brought, ran-failed}
+use Rattle.board.proofs.Running.{end-inside, talks-block, room-to-count, at-inside, budget-less, turning-next}
 use borrow.Author.Needs.{needs}
 use Rattle.board.proofs.run.Statement.{statement}
 use Rattle.board.proofs.run.Tie as tie
@@ -127,7 +128,7 @@ loop-again c =
     let w = r .before .before .before .loop in
     let well = sym (test .before .failed .ensures) ∙ test .if1 .left in
     let turned = turning-next (read-here r) (n .bytes .ensures) (a .answer .ensures) (eqb-true _ 0) (some _) well
-    (f .to-front .last .0) (f .to-front .kept .0) (f .to-front .result) (f .to-front .ensures .0) (f .to-front .ensures .1) in
+    (f .to-front .last .0) (f .to-front .result) (f .to-front .ensures .0) (f .to-front .ensures .1) in
     (turned, f .to-front .kept .0 ∙ r .read-to .kept .0 ∙ w .inv .1, a .answer .kept .1 .1 .1 .0 ∙ w .inv .2)
 
 same-length-3 : tie.Need-same-length-3 Inv-loop μ-loop

@@ -3,7 +3,7 @@
 use native.Mathlib.Omega.{arith}
 use denote.Ref.{now}
 use Rattle.rules.specs.Regions.{ourEquipment}
-use Rattle.board.proofs.Answering.{lent-length, speaks, says}
+use Rattle.board.proofs.Answering.{lent-length, due, says}
 use borrow.Author.Needs.{needs}
 use Rattle.board.proofs.say.Statement.{statement}
 use Rattle.board.proofs.say.Tie as tie
@@ -24,7 +24,7 @@ hand-over-requires : tie.Need-hand-over-requires
 hand-over-requires c κs =
     let r = c .before .before .before .before in
     let a = r .before .before .before .before in (
-      says ourEquipment (a .args .q) (now (a .args .block)) (a .args .last) (a .args .before) (now (a .args .out)) _ (a .pre .0 .0)
+      due ourEquipment (a .args .q) (now (a .args .block)) (a .args .last) (a .args .before) (now (a .args .out)) _ (a .pre .0 .0)
           (r .respond .result) (r .respond .ensures .0) (a .pre .0 .1),
       omega (arith, a .pre, r .respond .ensures .1 .0, lent-length (r .respond .ensures .0 .written)),
     )
@@ -37,7 +37,7 @@ returns c =
     let h = c .before in
     let r = h .before .before .before .before .before in
     let a = r .before .before .before .before in
-    speaks ourEquipment (a .args .q) (now (a .args .block)) (a .args .last) (a .args .before) (now (a .args .out)) _ (a .pre .0 .0)
+    says ourEquipment (a .args .q) (now (a .args .block)) (a .args .last) (a .args .before) (now (a .args .out)) _ (a .pre .0 .0)
     (r .respond .result) (r .respond .ensures .0) (r .respond .ensures .1 .0 .0) (r .respond .ensures .1 .0 .1) (h .hand-over .result) (h .hand-over .ensures)
 
 pub say-spec : {M : Type 1} → statement M

@@ -1,33 +1,39 @@
 -- `sheet::read` meets its contract. The loop's invariant: i lines are read, and the rest is read from here on (`Reading.antt`).
 -- Assumes nothing.
-use mathlib.Core.Path.{_≡_, sym, subst}
+use mathlib.Core.Path.{_≡_, refl, sym, ap, subst}
 use mathlib.Core.List.{List}
-use mathlib.Core.Logic.{_↔_}
-use Prim.Native.Nat.{ℕ, _+_, _-_}
+use Prim.Native.Nat.{ℕ, _-_}
 use native.Mathlib.Omega.{arith}
 use denote.Ref.{now}
 use borrow.Author.Needs.{needs}
 use Rattle.rules.specs.Settings.{sheetLines}
-use Rattle.rules.specs.Refusals.{settingsNumber, lineOf}
+use Rattle.rules.specs.Refusals.{settingsNumber}
+use Rattle.basics.proofs.Refusals.{number-bounds}
 use Rattle.rules.specs.Sheets.{readSheet}
 use Rattle.rules.specs.declared.SettingsCheck.{SettingsCheck}
-use Rattle.claims.specs.SheetCauses.{FirstCauseAt}
 use Rattle.laws.proofs.SheetCauses.{sheets-refused-rightly}
-use Rattle.sheet.specs.Outcomes.{Gives, SheetGiven}
+use Rattle.sheet.specs.Outcomes.{Gives, Numbered, SheetGiven}
 use Rattle.sheet.specs.declared.SheetOutcome.{SheetOutcome}
 use Rattle.sheet.proofs.Reading.{Going, beginning, unended, goes-on, stops, finished}
 use Rattle.sheet.proofs.read.Statement.{statement}
 use Rattle.sheet.proofs.read.Tie as tie
 
+-- a check whose number is 0 is accepted
+none-refused : (c : SettingsCheck) → settingsNumber c ≡ 0 → c ≡ SettingsCheck.Accepted
+none-refused SettingsCheck.Accepted e = refl
+none-refused (SettingsCheck.Refused cause line) e = absurd (omega (arith, e, number-bounds cause .0))
+
+by-cause : (s : List ℕ) → Numbered s (readSheet s .check)
+by-cause s =
+    let right = sheets-refused-rightly in
+    record {
+      refused = right .refuses s;
+      accepted = (λ e. right .accepts s .0 (none-refused (readSheet s .check) e), λ none. ap settingsNumber (right .accepts s .1 none));
+    }
+
 -- the rules' reading, and so its number and line
 given : (s : List ℕ) (r : SheetOutcome) → Gives r (readSheet s) → SheetGiven s r
-given s r e =
-    record {
-      gives = e;
-      numbered = λ i n h.
-          subst (λ (c : SettingsCheck). ((settingsNumber c ≡ n) × (lineOf c ≡ i + 1)) ↔ FirstCauseAt s i n) (sym (e .check))
-          (sheets-refused-rightly .refuses s i n h);
-    }
+given s r e = record { gives = e; numbered = subst (Numbered s) (sym (e .check)) (by-cause s) }
 
 abbrev Inv-loop : tie.InvT-loop
 Inv-loop s settings₀ at₀ i₀ settings at i = Going s settings at i

@@ -4,13 +4,11 @@ use mathlib.Core.Path.{_≡_, ap, _∙_}
 use mathlib.Core.List.{List}
 use Prim.Native.Nat.{ℕ, _+_, _-_, _≤_, min}
 use native.Mathlib.Omega.{arith}
-use lib.IntN.{ℤ, pos}
+use lib.IntN.{ℤ}
 use lib.ListN.{length, take, drop}
-use lib.Signed.{ltZ}
 use denote.Ref.{now}
 use mir.Syntax.{w64}
-use mir.Val.{SFits, toZ, ofZ}
-use mir.Facts.{toZ-ofZ}
+use mir.Val.{toZ, ofZ}
 use borrow.Rule.Slice.PartMut.{same-len-mid, mid-len, take-put}
 use Rattle.io.specs.Counts.{clamped}
 use Rattle.board.specs.Loop.{readAfter}
@@ -76,10 +74,12 @@ returns c =
     let have = a .args .have in
     let asked = c .before .before .before .before .before .before .before .within-budget in
     let read = c .before .before .before .before .before .read in
-    let fits : SFits w64 (read .result) = record { sfits = read .ok } in
-    let counted = c .count .ensures .1 in (
-      read-is (a .args .before) (length b - have) (asked .result) (c .count .result) (toZ w64 (ofZ w64 (read .result))) (asked .ensures) (counted ∙ ap (clamped (toZ w64 (ofZ w64 (read .result)))) (lent-length _ have (asked .result) (omega (arith, same-len-mid have (have + asked .result - have) b (read .last .1 .0) (read .kept .1 .0), asked .ensures)))),
-      take-put have (have + asked .result - have) b (read .last .1 .0) (omega arith),
+    let lent = have + asked .result - have in
+    let same = same-len-mid have lent b (read .last .1 .0) (read .kept .1 .0) in
+    let answer = toZ w64 (ofZ w64 (read .result)) in
+    let counted = c .count .ensures .1 ∙ ap (clamped answer) (lent-length _ have (asked .result) (omega (arith, same, asked .ensures))) in (
+      read-is (a .args .before) (length b - have) (asked .result) (c .count .result) answer (asked .ensures) counted,
+      take-put have lent b (read .last .1 .0) (omega arith),
     )
 
 pub read-to-spec : {M : Type 1} → statement M
