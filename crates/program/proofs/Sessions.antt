@@ -3,7 +3,7 @@
 use mathlib.Core.Path.{_≡_, refl, sym, ap, _∙_, subst}
 use mathlib.Core.Bool.{Bool, true, false, false≢true, _||_}
 use mathlib.Core.List.{List, [], _∷_, _++_, append-assoc, append-nil}
-use Prim.Native.Nat.{ℕ, _-_, _≤_, _<_}
+use Prim.Native.Nat.{ℕ, _+_, _-_, _≤_, _<_}
 use native.Mathlib.Omega.{arith}
 use borrow.Author.Tests.{ne-eqb, lt-leb}
 use lib.Dec.{leb}
@@ -252,6 +252,13 @@ module _ (e : Equipment) where
 
   at-end : (cs : List Delivery) (sizes : List ℕ) → Ended (ending e (after cs) sizes) (joined cs)
   at-end cs sizes = ended-ending (after cs) (joined cs) sizes (good-ended (after cs) (joined cs) (good cs))
+
+  -- as many bytes came as were taken and are left
+  pub taken-and-left : (cs : List Delivery) (sizes : List ℕ)
+      → length (joined cs) ≡ ending e (after cs) sizes .state .taken + length (ending e (after cs) sizes .left)
+  taken-and-left cs sizes =
+      let t = took-ending (after cs) (joined cs) sizes (took-during opened [] cs took-opened) in
+      ap length (t .splits) ∙ length-append (t .bytes) (ending e (after cs) sizes .left) ∙ ap (λ (n : ℕ). n + length (ending e (after cs) sizes .left)) (t .counts)
 
   -- what was said begins the transcript of what came, once the input has ended
   pub begins-ended : (cs : List Delivery) (sizes : List ℕ)

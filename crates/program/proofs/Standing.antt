@@ -16,7 +16,7 @@ use Rattle.program.specs.Standing.{Reached, Standing, StandingLaw, again
 use Rattle.program.specs.declared.State.{State}
 use Rattle.program.proofs.Fitting.{sensible-fit}
 use Rattle.program.proofs.Responding.{no-room}
-use Rattle.program.proofs.Sessions.{begins-ended, transcript-law}
+use Rattle.program.proofs.Sessions.{taken-and-left, begins-ended, transcript-law}
 
 joined-append : (cs ds : List Delivery) → joined (cs ++ ds) ≡ joined cs ++ joined ds
 unfolding joined
@@ -56,6 +56,10 @@ module _ (e : Equipment) where
 
     pub reached-fit : Fit (k .state) 0
     reached-fit = sensible-fit (k .state) reached-sensible
+
+    reached-counts : length input ≡ k .state .taken + length (k .left)
+    reached-counts =
+        ap length (sym (r .came)) ∙ taken-and-left e (r .deliveries) (r .sizes) ∙ ap (λ (k : Session). k .state .taken + length (k .left)) (r .is)
 
     -- once all is done, what was said is the transcript of what came
     pub reached-transcript : isDone (k .state) ≡ true → k .text ≡ transcript e input
@@ -181,4 +185,8 @@ module _ (e : Equipment) where
 
   pub standing-law : StandingLaw e
   standing-law =
-      record { done = λ ended q left said k p. reached-transcript (k .reached) p; begins = λ ended q left said k more none. reached-begins (k .reached) more none }
+      record {
+        counts = λ ended q left said k. reached-counts (k .reached);
+        done = λ ended q left said k p. reached-transcript (k .reached) p;
+        begins = λ ended q left said k more none. reached-begins (k .reached) more none;
+      }

@@ -3,7 +3,7 @@
 use mathlib.Core.Path.{_≡_}
 use mathlib.Core.Bool.{Bool, true, false}
 use mathlib.Core.List.{List, [], _++_}
-use Prim.Native.Nat.{ℕ, zero, suc}
+use Prim.Native.Nat.{ℕ, zero, suc, _+_}
 use lib.ListN.{length, drop}
 use Rattle.rules.specs.Samples.{Equipment}
 use Rattle.rules.specs.Transcripts.{transcript}
@@ -27,10 +27,13 @@ pub record Standing (e : Equipment) (ended : Bool) (q : State) (left : List ℕ)
   pub reached : Reached e input ended (record { state = q; left = left; text = text })
   pub all : said ≡ length text
 
--- where all is done, such a session has said the transcript of its input; before, a beginning of it, and of whatever could come after it where
--- the input has not ended
+-- of every session that stands
 pub record StandingLaw (e : Equipment) : Type 0 where
+  -- as many bytes came to it as it has taken and are left, so it cannot be one that has started anew since
+  pub counts : (ended : Bool) (q : State) (left : List ℕ) (said : ℕ) (k : Standing e ended q left said) → length (k .input) ≡ q .taken + length left
+  -- where all is done, it has said the transcript of its input
   pub done : (ended : Bool) (q : State) (left : List ℕ) (said : ℕ) (k : Standing e ended q left said) → isDone q ≡ true → k .text ≡ transcript e (k .input)
+  -- in any case a beginning of it, and of the transcript of whatever could come where the input has not ended
   pub begins : (ended : Bool) (q : State) (left : List ℕ) (said : ℕ) (k : Standing e ended q left said) (more : List ℕ) → (ended ≡ true → more ≡ [])
       → transcript e (k .input ++ more) ≡ k .text ++ drop (length (k .text)) (transcript e (k .input ++ more))
 
