@@ -3,10 +3,10 @@
  *     rt staticlib saltdelta              makes target/staticlib/libsaltdelta.a
  *     cc program.c -Iinclude target/staticlib/libsaltdelta.a
  *
- * Four functions: a fresh board record, reading a sheet of settings, one step of 10 ms, saving a record's image. The library keeps
- * nothing between calls and allocates nothing; it needs memcpy and some 10 kB of stack. Any number may stand in what is lent, for there
- * is an answer to each; the contracts in crates/saltdelta/src/lib.rt say which, and that is proved. What the board does is
- * docs/SPECIFICATION.md.
+ * Six functions: a fresh board record and its report, reading a sheet of settings, one step of 10 ms, saving a record's image, replaying
+ * recorded samples. The library keeps nothing between calls and allocates nothing; it needs memcpy and some 10 kB of stack. Any number may
+ * stand in what is lent, for there is an answer to each; the contracts in crates/saltdelta/src/lib.rt say which, and that is proved. What the
+ * board does is docs/SPECIFICATION.md.
  *
  * UNITS (spec 1.2). Voltage: 10000 is nominal. Frequency: mHz. Power: 10000 is the rating. Time: steps of 10 ms.
  *
@@ -22,15 +22,16 @@
  *     8  sample not of seven numbers
  *     9  image buffer under 45 bytes
  *
- * A sheet's lines are checked in order, each for 1, 2, 3; a step for 2 and 3 in sheet order, then for 8, 4, 5, 6, 7. A refused call
- * writes nothing at all: every byte that was lent to it stays as it was, of a struct its bytes of padding too. A call that is not refused
- * writes all fields of what it writes, and its bytes of padding may change.
+ * A sheet's lines are checked in order, each for 1, 2, 3; a step for 2 and 3 in sheet order, then for 8, 4, 5, 6, 7; a replay for 2 and 3 in
+ * sheet order, then for 9. A refused call writes nothing at all: every byte that was lent to it stays as it was, of a struct its bytes of
+ * padding too. A call that is not refused writes all fields of what it writes, and its bytes of padding may change.
  *
  * WHAT THE CALLER OWES, as for references in Rust; nothing else is asked, and nothing tests it:
  *
  *   - every pointer points to memory of the size that its type and its count say, aligned for its type; none is NULL, not with a
  *     count of 0 either, and no memory is larger than PTRDIFF_MAX bytes;
- *   - the memory is initialised, also where the call writes: settings of saltdelta_read_sheet, the report of saltdelta_step;
+ *   - the memory is initialised, also where the call writes: settings of saltdelta_read_sheet, the report of saltdelta_step and
+ *     of saltdelta_replay;
  *   - while the call runs, nobody else writes any of it or reads what the call writes (the pointers that are not to const), and what
  *     the call writes overlaps nothing else that is lent to the same call;
  *   - the structs are those below, and the compiler lays them out as the x86-64 System V ABI says.
@@ -143,8 +144,17 @@ typedef struct {
     size_t length;
 } saltdelta_sheet;
 
+/* What a replay answers. */
+typedef struct {
+    uint32_t number; /* 0, or 2, 3 or 9 */
+    size_t accepted; /* how many of the samples were accepted; 0 when the replay is refused */
+} saltdelta_replayed;
+
 /* A fresh board: tripped, with all counters, ramp count, watts and vars 0. */
 saltdelta_board saltdelta_fresh(void);
+
+/* The report of a fresh board, before its first sample: tripped, with all bits, share, watts and vars 0. */
+saltdelta_report saltdelta_fresh_report(void);
 
 /* Reads the sheet at the front of `length` lent bytes into `settings`. Bytes past its thirteenth line are not the sheet's. */
 saltdelta_sheet saltdelta_read_sheet(saltdelta_settings *settings, const uint8_t *bytes, size_t length);
@@ -158,6 +168,12 @@ uint32_t saltdelta_step(saltdelta_board *board, const saltdelta_settings *settin
 /* Saves the record's image in the first 45 of `length` lent bytes, high byte first: status (1 byte), the nine counters (4 each), ramp
  * count (4), watts (2), vars (2, two's complement), each as it is. The bytes after it are untouched. */
 uint32_t saltdelta_save(const saltdelta_board *board, uint8_t *buffer, size_t length);
+
+/* Replays recorded samples: `count` numbers, seven a sample, step a fresh record one sample after another under the same settings. Writes
+ * the last report, or the fresh board's if no sample is accepted, and saves the record's image in the first 45 of `length` lent bytes. A sample
+ * that is refused, as a last one of fewer than seven numbers is, is no step and does not refuse the replay. */
+saltdelta_replayed saltdelta_replay(const saltdelta_settings *settings, const uint32_t *samples, size_t count, saltdelta_report *report,
+                                    uint8_t *buffer, size_t length);
 
 #ifdef __cplusplus
 }

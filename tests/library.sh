@@ -1,7 +1,8 @@
 #!/usr/bin/env bash
 # The library: libsaltdelta.a is made, proofs checked, and called from C and from Rust; both are held against the comparison program.
-# A pass is a case: a run of calls that all agree with it (a board's life, or a hundred calls), a sheet that C reads as the specification says, or
-# a refused call of C's that writes no byte of what is lent to it, padding included. Rust's calls are held to that too.
+# A pass is a case: a run of calls that all agree with it (a board's life, or a hundred calls), a sheet that C reads as the specification says, a
+# replay that is what its steps one by one are, or a refused call of C's that writes no byte of what is lent to it, padding included. Rust's
+# calls are held to that too.
 set -u
 cd "$(dirname "$0")/.." || exit 2
 out=target/library

@@ -1,7 +1,7 @@
 /* The library from C. It makes calls from a fixed seed and writes them to one file and what the library answers to another, both in the
  * form of the comparison program's mode `calls`; tests/library.sh holds the answers against that program's. What that mode does not have
- * is checked here: the sheet of spec 3.3 and the refused lines of spec 11.1, and that a refused call writes no byte of what is lent to it,
- * bytes of padding among them. It prints 'N passed, M failed' for these. */
+ * is checked here: the sheet of spec 3.3 and the refused lines of spec 11.1, that a replay is what its steps one by one are, and that a
+ * refused call writes no byte of what is lent to it, bytes of padding among them. It prints 'N passed, M failed' for these. */
 #include <inttypes.h>
 #include <stdio.h>
 #include <string.h>
@@ -60,7 +60,8 @@ static void give_settings(const saltdelta_settings *s) {
     fputs("ok\n", answers);
 }
 
-static void step(saltdelta_board *b, const saltdelta_settings *s, const uint32_t *sample, size_t count) {
+/* The report is that of the last accepted step. */
+static uint32_t step(saltdelta_board *b, const saltdelta_settings *s, const uint32_t *sample, size_t count, saltdelta_report *last) {
     saltdelta_report r = {77, 77, 77, 77, -77};
     uint8_t image[SALTDELTA_IMAGE];
     uint32_t number = saltdelta_step(b, s, sample, count, &r);
@@ -80,6 +81,9 @@ static void step(saltdelta_board *b, const saltdelta_settings *s, const uint32_t
     }
     saltdelta_save(b, image, sizeof image);
     put_bytes(image, sizeof image);
+    if (number == SALTDELTA_ACCEPTED)
+        *last = r;
+    return number;
 }
 
 static void save(const saltdelta_board *b, size_t length) {
@@ -269,6 +273,47 @@ static void saves_refused(void) {
     }
 }
 
+/* A replay that is refused with `number` writes no byte of settings, samples, report and buffer. */
+typedef struct {
+    saltdelta_settings settings;
+    saltdelta_report report;
+    uint32_t samples[24];
+    uint8_t buffer[60];
+} lent_replay;
+
+static void fill_replay(lent_replay *lent, int pattern, const saltdelta_settings *s) {
+    static const uint32_t steady[7] = {1000, 1010, 990, 60000, 1, 10000, 9000};
+    memset(lent, pattern, sizeof *lent);
+    memcpy(&lent->settings, s, sizeof *s);
+    for (size_t i = 0; i < 24; i++)
+        lent->samples[i] = steady[i % 7];
+}
+
+static void replay_refused(lent_replay *lent, size_t length, uint32_t number, const char *what) {
+    lent_replay before;
+    saltdelta_replayed found;
+    memcpy(&before, lent, sizeof before);
+    found = saltdelta_replay(&lent->settings, lent->samples, 24, &lent->report, lent->buffer, length);
+    expect(found.number == number && found.accepted == 0 && memcmp(&before, lent, sizeof before) == 0, what);
+}
+
+static void replays_refused(void) {
+    const saltdelta_settings s = settings_of_sheet();
+    for (int pattern = 0; pattern < 256; pattern += 85) {
+        lent_replay lent;
+        for (size_t length = 0; length <= sizeof lent.buffer; length++) {
+            fill_replay(&lent, pattern, &s);
+            if (length < SALTDELTA_IMAGE)
+                replay_refused(&lent, length, SALTDELTA_BUFFER, "a replay into a buffer under 45 bytes");
+            lent.settings.trip[length % 8].clearing = 100001;
+            replay_refused(&lent, length, SALTDELTA_RANGE, "a replay with a clearing time out of range");
+            fill_replay(&lent, pattern, &s);
+            lent.settings.watt[1].volts = lent.settings.watt[0].volts;
+            replay_refused(&lent, length, SALTDELTA_RISE, "a replay with voltages that do not rise");
+        }
+    }
+}
+
 /* ---- boards from fresh, and records of any kind */
 
 static uint32_t count(void) {
@@ -310,13 +355,54 @@ static saltdelta_settings settings_read(void) {
     return s;
 }
 
+static int same_report(const saltdelta_report *a, const saltdelta_report *b) {
+    return a->status == b->status && a->bits == b->bits && a->share == b->share && a->watts == b->watts && a->vars == b->vars;
+}
+
+/* A recording of `count` numbers, some samples refused, is stepped one by one and then replayed: the same count of accepted samples, report
+ * and image, and the bytes after the image stay. */
+static void replay(size_t count) {
+    uint32_t samples[400] = {0};
+    uint8_t stepped[64], replayed[64];
+    size_t accepted = 0, length = within(SALTDELTA_IMAGE, 60);
+    saltdelta_settings s = settings_read();
+    saltdelta_board b = saltdelta_fresh();
+    saltdelta_report last = saltdelta_fresh_report(), report = {77, 77, 77, 77, -77};
+    saltdelta_replayed found;
+    fputs("fresh\n", calls);
+    fputs("ok\n", answers);
+    give_settings(&s);
+    for (size_t i = 0; i < count; i += 7) {
+        uint32_t sample[9];
+        any_sample(sample);
+        memcpy(samples + i, sample, 7 * sizeof *sample);
+    }
+    for (size_t i = 0; i < count; i += 7)
+        accepted += step(&b, &s, samples + i, count - i < 7 ? count - i : 7, &last) == SALTDELTA_ACCEPTED;
+    memset(stepped, 0xAA, sizeof stepped);
+    memset(replayed, 0xAA, sizeof replayed);
+    saltdelta_save(&b, stepped, length);
+    found = saltdelta_replay(&s, samples, count, &report, replayed, length);
+    expect(found.number == SALTDELTA_ACCEPTED && found.accepted == accepted && same_report(&report, &last)
+               && memcmp(stepped, replayed, sizeof stepped) == 0,
+           "a replay and its steps");
+}
+
+static void fresh_report(void) {
+    const saltdelta_report r = saltdelta_fresh_report(), zeros = {SALTDELTA_TRIPPED, 0, 0, 0, 0};
+    expect(same_report(&r, &zeros), "the report of a fresh board");
+}
+
 int main(int argc, char **argv) {
+    saltdelta_report report;
     uint32_t sample[9] = {0};
     if (argc != 3 || !(calls = fopen(argv[1], "w")) || !(answers = fopen(argv[2], "w")))
         return 2;
     sheets();
     steps_refused();
     saves_refused();
+    replays_refused();
+    fresh_report();
     for (int i = 0; i < 1000; i++) {
         saltdelta_board b = saltdelta_fresh();
         saltdelta_settings s = settings_read();
@@ -325,7 +411,7 @@ int main(int argc, char **argv) {
         save(&b, within(45, 60));
         give_settings(&s);
         for (int k = 0; k < 20; k++)
-            step(&b, &s, sample, any_sample(sample));
+            step(&b, &s, sample, any_sample(sample), &report);
         b = any_record();
         give_record(&b);
         save(&b, (size_t)(i % 51));
@@ -335,8 +421,10 @@ int main(int argc, char **argv) {
             give_settings(&s);
         }
         for (int k = 0; k < 5; k++)
-            step(&b, &s, sample, any_sample(sample));
+            step(&b, &s, sample, any_sample(sample), &report);
     }
+    for (size_t count = 0; count <= 350; count++)
+        replay(count);
     if (fclose(calls) != 0 || fclose(answers) != 0)
         return 2;
     printf("%d passed, %d failed\n", passed, failed);

@@ -10,7 +10,7 @@ mod comparison;
 mod library;
 
 use comparison as other;
-use library::{Board, Limit, Point, Report, Settings, Sheet, Span};
+use library::{Board, Limit, Point, Replayed, Report, Settings, Sheet, Span};
 use std::marker::PhantomData;
 use std::mem::size_of;
 use std::ptr::addr_of_mut;
@@ -306,7 +306,9 @@ impl Tally {
 
 fn compare_fresh(tally: &mut Tally) -> Board {
     let b = library::fresh();
+    let r = library::fresh_report();
     tally.call(other_record(&b) == other::fresh(), || format!("fresh: {:?}", b));
+    tally.call(r == report_of(&other::fresh_report()), || format!("fresh report: {:?}", r));
     b
 }
 
@@ -361,6 +363,57 @@ fn compare_sheet(tally: &mut Tally, settings: &mut Settings, bytes: &[u8]) -> u3
     let same = found == expected && other_settings(settings) == after && (found.number == 0 || s.bytes() == before);
     tally.call(same, || format!("sheet {:?}: {:?}, not {:?}", String::from_utf8_lossy(bytes), found, expected));
     found.number
+}
+
+/// What the comparison program makes of a replay, sample by sample: the answer, the report and the buffer.
+fn other_replay(settings: &Settings, samples: &[u32], report: &Report, buffer: &[u8]) -> (Replayed, Report, Vec<u8>) {
+    let refused = |number: u8| (Replayed { number: number.into(), accepted: 0 }, *report, buffer.to_vec());
+    let settings = other_settings(settings);
+    let (mut record, mut last, mut accepted) = (other::fresh(), other::fresh_report(), 0);
+    // a slice of no numbers is refused with 8 under accepted settings
+    match other::step(&mut record, &settings, &[]) {
+        Err(8) => (),
+        Err(number) => return refused(number),
+        Ok(_) => unreachable!(),
+    }
+    for sample in samples.chunks(7) {
+        if let Ok(r) = other::step(&mut record, &settings, sample) {
+            (last, accepted) = (r, accepted + 1);
+        }
+    }
+    let mut bytes = buffer.to_vec();
+    match other::save(&record, &mut bytes) {
+        Ok(()) => (Replayed { number: 0, accepted }, report_of(&last), bytes),
+        Err(number) => refused(number),
+    }
+}
+
+/// The same by the library's own steps, for a replay that is not refused.
+fn step_by_step(settings: &Settings, samples: &[u32], buffer: &mut [u8]) -> (usize, Report) {
+    let (mut board, mut report) = (library::fresh(), library::fresh_report());
+    let accepted = samples.chunks(7).filter(|s| library::step(&mut board, settings, s, &mut report) == 0).count();
+    library::save(&board, buffer);
+    (accepted, report)
+}
+
+fn compare_replay(tally: &mut Tally, settings: &Settings, samples: &[u32], report: &Report, buffer: &[u8]) -> (Replayed, Report) {
+    let (expected, reported, saved) = other_replay(settings, samples, report, buffer);
+    let pattern = tally.calls as u8;
+    let (mut s, mut r) = (lent_settings(pattern, settings), lent_report(pattern, report));
+    let before = (s.bytes(), r.bytes(), samples.to_vec());
+    let mut bytes = buffer.to_vec();
+    let found = library::replay(s.get(), samples, r.get(), &mut bytes);
+    let last = *r.get();
+    let same = found == expected
+        && last == reported
+        && bytes == saved
+        && s.bytes() == before.0
+        && samples == before.2
+        && (found.number == 0 || r.bytes() == before.1);
+    let mut stepped = buffer.to_vec();
+    let by_steps = found.number != 0 || (step_by_step(settings, samples, &mut stepped) == (found.accepted, last) && stepped == bytes);
+    tally.call(same && by_steps, || format!("replay of {:?} under {:?}: {:?} {:?}, not {:?} {:?}", samples, settings, found, last, expected, reported));
+    (found, last)
 }
 
 // ---- the groups
@@ -462,6 +515,34 @@ fn sheets(tally: &mut Tally, dice: &mut Dice, seen: &mut [u64; 10]) {
     tally.case();
 }
 
+/// Recordings of 0 to 1,000 numbers, with samples that are refused and a last one cut short; settings good and not, buffers of 0 to 60 bytes.
+fn replays(tally: &mut Tally, dice: &mut Dice, seen: &mut [u64; 10]) -> [u64; 6] {
+    let mut statuses = [0; 6];
+    for i in 0..4_000 {
+        let pairs = if dice.one_in(8) { wild_pairs(dice) } else { good_pairs(dice) };
+        let steady = if dice.one_in(4) { sample(dice, false) } else { vec![1000, 1010, 990, 60000, 1, 10000, 9000] };
+        let often = dice.within(2, 60) as u64;
+        let mut samples = Vec::new();
+        while samples.len() <= 1000 {
+            let mut s = if dice.one_in(often) { sample(dice, true) } else { steady.clone() };
+            s.resize(7, 0);
+            samples.extend(s);
+        }
+        samples.truncate(if i <= 300 { i } else { dice.below(1001) as usize });
+        let length = if dice.one_in(8) { dice.below(45) } else { 45 + dice.below(16) };
+        let buffer: Vec<u8> = (0..length).map(|_| dice.next() as u8).collect();
+        let (found, last) = compare_replay(tally, &settings_of(&pairs), &samples, &wild_report(dice), &buffer);
+        seen[found.number as usize] += 1;
+        if found.number == 0 {
+            statuses[last.status as usize] += 1;
+        }
+        if i % 20 == 19 {
+            tally.case();
+        }
+    }
+    statuses
+}
+
 fn main() {
     let mut tally = Tally::default();
     let mut seen = [0; 10];
@@ -476,6 +557,9 @@ fn main() {
     let mut seen = [0; 10];
     sheets(&mut tally, &mut Dice(13), &mut seen);
     println!("sheets: numbers answered {:?}", &seen[..4]);
+    let mut seen = [0; 10];
+    let statuses = replays(&mut tally, &mut Dice(7), &mut seen);
+    println!("replays: numbers answered {:?}, statuses at the end {:?}", seen, statuses);
     println!("calls: {}, {} of them differ", tally.calls, tally.differ);
     println!("{} passed, {} failed", tally.passed, tally.failed);
     if tally.failed > 0 {

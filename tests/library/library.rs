@@ -63,16 +63,36 @@ pub struct Sheet {
     pub length: usize,
 }
 
+#[repr(C)]
+#[derive(Clone, Copy, Debug, PartialEq)]
+pub struct Replayed {
+    pub number: u32,
+    pub accepted: usize,
+}
+
 #[link(name = "saltdelta", kind = "static")]
 extern "C" {
     fn saltdelta_fresh() -> Board;
+    fn saltdelta_fresh_report() -> Report;
     fn saltdelta_read_sheet(settings: &mut Settings, bytes: *const u8, length: usize) -> Sheet;
     fn saltdelta_step(board: &mut Board, settings: &Settings, sample: *const u32, count: usize, report: &mut Report) -> u32;
     fn saltdelta_save(board: &Board, buffer: *mut u8, length: usize) -> u32;
+    fn saltdelta_replay(
+        settings: &Settings,
+        samples: *const u32,
+        count: usize,
+        report: &mut Report,
+        buffer: *mut u8,
+        length: usize,
+    ) -> Replayed;
 }
 
 pub fn fresh() -> Board {
     unsafe { saltdelta_fresh() }
+}
+
+pub fn fresh_report() -> Report {
+    unsafe { saltdelta_fresh_report() }
 }
 
 pub fn read_sheet(settings: &mut Settings, bytes: &[u8]) -> Sheet {
@@ -85,4 +105,8 @@ pub fn step(board: &mut Board, settings: &Settings, sample: &[u32], report: &mut
 
 pub fn save(board: &Board, buffer: &mut [u8]) -> u32 {
     unsafe { saltdelta_save(board, buffer.as_mut_ptr(), buffer.len()) }
+}
+
+pub fn replay(settings: &Settings, samples: &[u32], report: &mut Report, buffer: &mut [u8]) -> Replayed {
+    unsafe { saltdelta_replay(settings, samples.as_ptr(), samples.len(), report, buffer.as_mut_ptr(), buffer.len()) }
 }

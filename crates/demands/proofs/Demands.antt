@@ -1,5 +1,6 @@
 -- The statements of specs/Demands.antt hold.
 -- Assumes nothing.
+use mathlib.Core.Path.{subst⁻¹}
 use native.Mathlib.Omega.{arith}
 use Rattle.rules.specs.Regions.{ourEquipment}
 use Rattle.rules.specs.Sheets.{readSheet}
@@ -33,6 +34,15 @@ use Rattle.demands.specs.Demands.{PowerLaws}
 use Rattle.demands.specs.Demands.{AlikeEquipmentStepsAlike, OurPrinted, OnePrinting, SamplesOnLines, StatusWordsTell, BitsUnpacked}
 use Rattle.demands.specs.Demands.{ReportsAreItems, OurTwoHistoriesReported}
 use Rattle.demands.specs.Demands.{OurLentRecords, LentValues, RightReportsTrip, ShamRefusalsCaught, ShamReportsCaught}
+use Rattle.claims.specs.TripAndReturn.{Demand2}
+use Rattle.claims.specs.TwoHistories.{Demand3}
+use Rattle.replay.proofs.Groups.{by-seven}
+use Rattle.replay.proofs.Demanded.{replays-rightly}
+use Rattle.saltdelta.proofs.Refusals.{exported-refuse}
+use Rattle.saltdelta.proofs.Exported.{board-is, exported-replay}
+use Rattle.demands.specs.Demands.{ExportedRefusals, ExportedDemands, OurReplay, ExportedReplay, ReplayGroups}
+use Rattle.demands.specs.Demands.{CodeContracts, CodeMeetsContracts}
+use Rattle.demands.proofs.Contracts.{contracts-say, code-meets}
 use Rattle.demands.proofs.Edges.{edges-hold}
 use Rattle.demands.proofs.Lent.{lent-read}
 use Rattle.demands.proofs.Printed.{prints-by-history, one-printing, samples-on-lines}
@@ -191,3 +201,25 @@ ourEquipmentSound = our-equipment-sound
 
 pub alikeEquipmentStepsAlike : AlikeEquipmentStepsAlike
 alikeEquipmentStepsAlike = step-alike
+
+pub exportedRefusals : ExportedRefusals
+exportedRefusals = exported-refuse
+
+pub exportedDemands : ExportedDemands
+exportedDemands before =
+    (subst⁻¹ (Demand2 ourEquipment) (board-is before) ourTripAndReturn, subst⁻¹ (Demand3 ourEquipment) (board-is before) ourTwoHistories)
+
+pub ourReplay : OurReplay
+ourReplay = replays-rightly our-equipment-sound
+
+pub exportedReplay : ExportedReplay
+exportedReplay = exported-replay our-equipment-sound
+
+pub replayGroups : ReplayGroups
+replayGroups = by-seven
+
+pub codeContracts : CodeContracts
+codeContracts M = contracts-say {M = M}
+
+pub codeMeetsContracts : CodeMeetsContracts
+codeMeetsContracts M = code-meets {M = M}

@@ -9,4 +9,5 @@ pub mod ShamReadings
 pub mod ShamLines
 pub mod ShamRefusals
 pub mod Printed
+pub mod Contracts
 pub mod Demands

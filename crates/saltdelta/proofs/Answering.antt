@@ -23,7 +23,8 @@ use Rattle.rules.specs.declared.Refusal.{Refusal}
 use Rattle.sheet.specs.Outcomes.{Gives}
 use Rattle.sheet.specs.declared.SheetOutcome.{SheetOutcome}
 use Rattle.saltdelta.specs.declared.SheetAnswer.{SheetAnswer}
-use Rattle.saltdelta.specs.Answers.{recordAfter, reportAfter, reportOr, noReport, stepNumber, sheetAnswer}
+use Rattle.claims.specs.Calls.{freshReport}
+use Rattle.saltdelta.specs.Answers.{recordAfter, reportAfter, reportOr, stepNumber, sheetAnswer}
 
 -- a cause's number is small, and not 0
 
@@ -34,21 +35,21 @@ number-small cause = omega (arith, number-bounds cause)
 
 module _ (b : Board) (s : Settings) (x : Slice) (t : Stepped) (e : t ≡ stepOf ourEquipment b s x) where
   answers : (a : Answer) → t .answer ≡ a
-      → (t .board ≡ recordAfter b s x) × (reportOr noReport a ≡ reportAfter noReport b s x) × (answerNumber a ≡ stepNumber b s x)
+      → (t .board ≡ recordAfter b s x) × (reportOr freshReport a ≡ reportAfter freshReport b s x) × (answerNumber a ≡ stepNumber b s x)
   unfolding recordAfter reportAfter stepNumber
   answers a told =
       let answered : a ≡ stepOf ourEquipment b s x .answer = sym told ∙ ap (λ (u : Stepped). u .answer) e in
-      (ap (λ (u : Stepped). u .board) e, ap (reportOr noReport) answered, ap answerNumber answered)
+      (ap (λ (u : Stepped). u .board) e, ap (reportOr freshReport) answered, ap answerNumber answered)
 
   pub reported : (r : Report) → t .answer ≡ Answer.Reported r
-      → (t .board ≡ recordAfter b s x) × (r ≡ reportAfter noReport b s x) × (0 ≡ stepNumber b s x)
+      → (t .board ≡ recordAfter b s x) × (r ≡ reportAfter freshReport b s x) × (0 ≡ stepNumber b s x)
   reported r told = answers (Answer.Reported r) told
 
-  pub refused : (cause : Refusal) (n : ℕ) → t .answer ≡ Answer.Refused cause → n ≡ refusalNumber cause
-      → (t .board ≡ recordAfter b s x) × (noReport ≡ reportAfter noReport b s x) × (n ≡ stepNumber b s x)
-  refused cause n told numbered =
+  pub refused : (cause : Refusal) (r : Report) (n : ℕ) → t .answer ≡ Answer.Refused cause → r ≡ freshReport → n ≡ refusalNumber cause
+      → (t .board ≡ recordAfter b s x) × (r ≡ reportAfter freshReport b s x) × (n ≡ stepNumber b s x)
+  refused cause r n told none numbered =
       let all = answers (Answer.Refused cause) told in
-      (all .0, all .1, numbered ∙ all .2)
+      (all .0, none ∙ all .1, numbered ∙ all .2)
 
 -- ---- a sheet
 

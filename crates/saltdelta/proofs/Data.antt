@@ -5,6 +5,7 @@ use denote.Struct.Laws as LL
 use Rattle.walk.proofs.Whole.{Whole, Known, of-struct, of-uint}
 use Rattle.saltdelta.specs.declared.SheetCall.{SheetCall}
 use Rattle.saltdelta.specs.declared.StepCall.{StepCall}
+use Rattle.saltdelta.specs.declared.ReplayCall.{ReplayCall}
 use Rattle.rules.proofs.Board as B
 use Rattle.rules.proofs.Board.Laws as B′
 use Rattle.rules.proofs.Settings as T
@@ -17,6 +18,10 @@ use Rattle.saltdelta.proofs.SheetCall as C
 use Rattle.saltdelta.proofs.SheetCall.Laws as C′
 use Rattle.saltdelta.proofs.StepCall as S
 use Rattle.saltdelta.proofs.StepCall.Laws as S′
+use Rattle.saltdelta.proofs.ReplayAnswer as P
+use Rattle.saltdelta.proofs.ReplayAnswer.Laws as P′
+use Rattle.saltdelta.proofs.ReplayCall as Q
+use Rattle.saltdelta.proofs.ReplayCall.Laws as Q′
 
 abbrev pub number : Whole
 number = of-uint w32
@@ -39,6 +44,12 @@ sheet-call = of-struct C.the-type C′.the-laws C′.the-plain C′.the-copy
 abbrev pub step-call : Whole
 step-call = of-struct S.the-type S′.the-laws S′.the-plain S′.the-copy
 
+abbrev pub replay-answer : Whole
+replay-answer = of-struct P.the-type P′.the-laws P′.the-plain P′.the-copy
+
+abbrev pub replay-call : Whole
+replay-call = of-struct Q.the-type Q′.the-laws Q′.the-plain Q′.the-copy
+
 -- what is known of a call is known of its parts
 
 pub settings-of : (r : SheetCall) → Known sheet-call r → Known settings (r .settings)
@@ -55,3 +66,9 @@ report-of r g = LL.owed S.the-type S′.the-laws r _ g .1 .0
 
 pub number-of : (r : StepCall) → Known step-call r → Known number (r .number)
 number-of r g = LL.owed S.the-type S′.the-laws r _ g .1 .1 .0
+
+pub replay-report-of : (r : ReplayCall) → Known replay-call r → Known report (r .report)
+replay-report-of r g = LL.owed Q.the-type Q′.the-laws r _ g .0
+
+pub replay-answer-of : (r : ReplayCall) → Known replay-call r → Known replay-answer (r .answer)
+replay-answer-of r g = LL.owed Q.the-type Q′.the-laws r _ g .1 .0

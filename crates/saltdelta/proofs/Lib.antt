@@ -2,4 +2,5 @@ pub mod Answering
 pub mod Data
 pub mod InPlace
 pub mod Refusals
+pub mod Exported
 pub mod Storing

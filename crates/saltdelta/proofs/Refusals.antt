@@ -1,26 +1,35 @@
 -- Demand 1 for the exported functions: they refuse with the first cause in the order of spec 11.2, and leave what was lent to them as it was.
--- Of `saltdelta_save`, whose contract has `saveCheck` and `savedInto` themselves, `save` and `save-keeps` of `RefusesRightly` say so.
 -- Assumes nothing.
-use mathlib.Core.Path.{_≡_, refl}
-use mathlib.Core.List.{List, _++_}
+use mathlib.Core.Path.{_≡_, refl, ap}
+use mathlib.Core.List.{List, [], _∷_, _++_}
 use mathlib.Core.Logic.{_↔_}
 use Prim.Native.Nat.{ℕ, _+_, _<_}
 use native.Mathlib.Omega.{arith}
+use lib.Dec.{ltb}
+use lib.ListN as L
 use Rattle.rules.specs.Samples.{Slice}
 use Rattle.rules.specs.Regions.{ourEquipment}
+use Rattle.rules.specs.Settings.{sheetLines}
 use Rattle.rules.specs.Refusals.{settingsNumber, answerNumber}
-use Rattle.rules.specs.Records.{stepOf}
+use Rattle.rules.specs.Records.{fresh, stepOf}
+use Rattle.rules.specs.Images.{imageLength}
 use Rattle.rules.specs.Sheets.{readSheet}
 use Rattle.rules.specs.declared.Board.{Board}
 use Rattle.rules.specs.declared.Report.{Report}
 use Rattle.rules.specs.declared.Answer.{Answer}
 use Rattle.rules.specs.declared.Settings.{Settings}
 use Rattle.rules.specs.declared.SettingsCheck.{SettingsCheck}
-use Rattle.claims.specs.FirstCause.{first, settingsCauses, sampleCauses}
-use Rattle.claims.specs.SheetCauses.{FirstCauseAt}
+use Rattle.claims.specs.FirstCause.{cause, first, settingsCauses, sampleCauses}
+use Rattle.claims.specs.SheetCauses.{FirstCauseAt, lineCause}
+use Rattle.basics.proofs.Refusals.{number-bounds}
 use Rattle.laws.proofs.FirstCause.{refuses-rightly}
 use Rattle.laws.proofs.SheetCauses.{sheets-refused-rightly}
-use Rattle.saltdelta.specs.Answers.{recordAfter, reportAfter, reportOr, stepNumber, sheetAnswer, settingsAfter, settingsOr}
+use Rattle.replay.specs.Replays.{replayNumber, replayed, replayedInto}
+use Rattle.replay.proofs.Answering.{kept, number-first}
+use Rattle.replay.proofs.Demanded.{no-samples, buffer-kept}
+use Rattle.saltdelta.specs.Answers.{recordAfter, reportAfter, reportOr, stepNumber, sheetAnswer, settingsAfter, settingsOr, replayAnswer, replayReport}
+use Rattle.saltdelta.specs.Refuses.{ExportedRefuse}
+use Rattle.saltdelta.proofs.InPlace.{part-in-place}
 
 -- ---- a step
 
@@ -55,3 +64,55 @@ module _ (s : List ℕ) where
       by : (c : SettingsCheck) → 0 < settingsNumber c → settingsOr before c (readSheet s .settings) ≡ before
       by SettingsCheck.Accepted k = absurd (omega (arith, k))
       by (SettingsCheck.Refused cause line) k = refl
+
+  sheet-accepted : (sheetAnswer s .number ≡ 0) ↔ ((i : ℕ) → i < sheetLines → lineCause i s ≡ 0)
+  unfolding sheetAnswer
+  sheet-accepted =
+      let accepts = sheets-refused-rightly .accepts s in
+      (λ zero. accepts .0 (no-number (readSheet s .check) zero), λ clear. ap settingsNumber (accepts .1 clear))
+    where
+      no-number : (c : SettingsCheck) → settingsNumber c ≡ 0 → c ≡ SettingsCheck.Accepted
+      no-number SettingsCheck.Accepted h = refl
+      no-number (SettingsCheck.Refused cause line) h = absurd (omega (arith, h, number-bounds cause .0))
+
+  pub settings-stored : (before : Settings) → sheetAnswer s .number ≡ 0 → settingsAfter before s ≡ readSheet s .settings
+  unfolding sheetAnswer settingsAfter
+  settings-stored before = by (readSheet s .check)
+    where
+      by : (c : SettingsCheck) → settingsNumber c ≡ 0 → settingsOr before c (readSheet s .settings) ≡ readSheet s .settings
+      by SettingsCheck.Accepted h = refl
+      by (SettingsCheck.Refused cause line) h = absurd (omega (arith, h, number-bounds cause .0))
+
+-- ---- a replay
+
+module _ (st : Settings) (samples buffer : List ℕ) where
+  replay-cause : replayAnswer st samples buffer .number ≡ first (settingsCauses st ++ (cause 9 (ltb (L.length buffer) imageLength) ∷ []))
+  unfolding replayAnswer replayed
+  replay-cause = number-first st buffer
+
+  none-accepted : 0 < replayAnswer st samples buffer .number → replayAnswer st samples buffer .accepted ≡ 0
+  unfolding replayAnswer replayed
+  none-accepted h = no-samples st samples buffer h
+
+  last-report-kept : (before : Report) → 0 < replayAnswer st samples buffer .number → replayReport before st samples buffer ≡ before
+  unfolding replayAnswer replayed replayReport
+  last-report-kept before h = kept (replayNumber st buffer) _ before h
+
+  image-kept : 0 < replayAnswer st samples buffer .number → replayedInto st samples buffer ≡ buffer
+  unfolding replayAnswer replayed
+  image-kept h = buffer-kept st samples buffer h
+
+pub exported-refuse : ExportedRefuse
+exported-refuse =
+    record {
+      step = record { number = step-cause; record-kept = record-kept; report-kept = report-kept };
+      sheet = record {
+        refused = sheet-cause;
+        accepted = sheet-accepted;
+        settings-kept = settings-kept;
+        settings-stored = settings-stored;
+        part = part-in-place;
+      };
+      save = record { number = refuses-rightly ourEquipment .save fresh; buffer-kept = refuses-rightly ourEquipment .save-keeps };
+      replay = record { number = replay-cause; none = none-accepted; report-kept = last-report-kept; buffer-kept = image-kept };
+    }

@@ -1,43 +1,47 @@
 -- What an exported function stores, from what the call by value says: all of it where its number is 0, and nothing else.
 -- Assumes nothing.
-use mathlib.Core.Path.{_≡_, refl, sym, _∙_, subst}
+use mathlib.Core.Path.{_≡_, refl, sym, ap, _∙_, subst}
 use mathlib.Core.List.{List}
 use Prim.Native.Nat.{ℕ, _<_}
 use native.Mathlib.Omega.{arith}
 use Rattle.rules.specs.Samples.{Slice}
 use Rattle.rules.specs.Regions.{ourEquipment}
-use Rattle.rules.specs.Refusals.{settingsNumber, answerNumber}
+use Rattle.rules.specs.Refusals.{answerNumber}
 use Rattle.rules.specs.Records.{stepOf}
 use Rattle.rules.specs.Sheets.{readSheet}
 use Rattle.rules.specs.declared.Board.{Board}
 use Rattle.rules.specs.declared.Report.{Report}
 use Rattle.rules.specs.declared.Answer.{Answer}
 use Rattle.rules.specs.declared.Settings.{Settings}
-use Rattle.rules.specs.declared.SettingsCheck.{SettingsCheck}
-use Rattle.saltdelta.specs.Answers.{recordAfter, reportAfter, reportOr, noReport, stepNumber, sheetAnswer, settingsAfter, settingsOr}
+use Rattle.claims.specs.Calls.{freshReport}
+use Rattle.replay.specs.Replays.{replayNumber, replayed, replayedInto}
+use Rattle.replay.proofs.Answering.{kept, given}
+use Rattle.saltdelta.specs.Answers.{recordAfter, reportAfter, reportOr, stepNumber, sheetAnswer, settingsAfter, replayAnswer, replayReport}
 use Rattle.saltdelta.specs.declared.StepCall.{StepCall}
 use Rattle.saltdelta.specs.declared.SheetCall.{SheetCall}
 use Rattle.saltdelta.specs.declared.SheetAnswer.{SheetAnswer}
+use Rattle.saltdelta.specs.declared.ReplayCall.{ReplayCall}
+use Rattle.saltdelta.specs.declared.ReplayAnswer.{ReplayAnswer}
 use Rattle.basics.proofs.Refusals.{number-bounds}
-use Rattle.saltdelta.proofs.Refusals.{record-kept, report-kept, settings-kept}
+use Rattle.saltdelta.proofs.Refusals.{record-kept, report-kept, settings-kept, settings-stored}
 
 -- ---- a step
 
 module _ (b : Board) (s : Settings) (x : Slice) where
   -- what the step by value says of its result
   abbrev pub StepSays : StepCall → Type 0
-  StepSays r = (r .board ≡ recordAfter b s x) × (r .report ≡ reportAfter noReport b s x) × (r .number ≡ stepNumber b s x)
+  StepSays r = (r .board ≡ recordAfter b s x) × (r .report ≡ reportAfter freshReport b s x) × (r .number ≡ stepNumber b s x)
 
   -- what is promised of record, report and number
   abbrev pub StepLeaves : Report → Board → Report → ℕ → Type 0
   StepLeaves before b′ report n = (b′ ≡ recordAfter b s x) × (report ≡ reportAfter before b s x) × (n ≡ stepNumber b s x)
 
   -- a report does not depend on the one before
-  whichever : (before : Report) → stepNumber b s x ≡ 0 → reportAfter noReport b s x ≡ reportAfter before b s x
+  whichever : (before : Report) → stepNumber b s x ≡ 0 → reportAfter freshReport b s x ≡ reportAfter before b s x
   unfolding stepNumber reportAfter
   whichever before = by (stepOf ourEquipment b s x .answer)
     where
-      by : (a : Answer) → answerNumber a ≡ 0 → reportOr noReport a ≡ reportOr before a
+      by : (a : Answer) → answerNumber a ≡ 0 → reportOr freshReport a ≡ reportOr before a
       by (Answer.Reported r) h = refl
       by (Answer.Refused cause) h = absurd (omega (arith, h, number-bounds cause .0))
 
@@ -58,18 +62,37 @@ module _ (s : List ℕ) where
   abbrev pub SheetLeaves : Settings → Settings → SheetAnswer → Type 0
   SheetLeaves before settings answer = (settings ≡ settingsAfter before s) × (answer ≡ sheetAnswer s)
 
-  read-ones : (before : Settings) → sheetAnswer s .number ≡ 0 → readSheet s .settings ≡ settingsAfter before s
-  unfolding sheetAnswer settingsAfter
-  read-ones before = by (readSheet s .check)
-    where
-      by : (c : SettingsCheck) → settingsNumber c ≡ 0 → readSheet s .settings ≡ settingsOr before c (readSheet s .settings)
-      by SettingsCheck.Accepted h = refl
-      by (SettingsCheck.Refused cause line) h = absurd (omega (arith, h, number-bounds cause .0))
-
   pub sheet-stored : (before : Settings) (r : SheetCall) → SheetSays r → r .answer .number ≡ 0 → SheetLeaves before (r .settings) (r .answer)
   sheet-stored before r says zero =
-      (says .0 ∙ read-ones before (subst (λ (a : SheetAnswer). a .number ≡ 0) (says .1) zero), says .1)
+      (says .0 ∙ sym (settings-stored s before (subst (λ (a : SheetAnswer). a .number ≡ 0) (says .1) zero)), says .1)
 
   pub sheet-kept : (before : Settings) (r : SheetCall) → SheetSays r → 0 < r .answer .number → SheetLeaves before before (r .answer)
   sheet-kept before r says refused =
       (sym (settings-kept s before (subst (λ (a : SheetAnswer). 0 < a .number) (says .1) refused)), says .1)
+
+-- ---- a replay
+
+module _ (st : Settings) (samples buffer : List ℕ) where
+  abbrev pub ReplaySays : ReplayCall → List ℕ → Type 0
+  ReplaySays r bytes =
+      (r .report ≡ replayed st samples buffer .report) × (r .answer ≡ replayAnswer st samples buffer) × (bytes ≡ replayedInto st samples buffer)
+
+  abbrev pub ReplayLeaves : Report → Report → List ℕ → ReplayAnswer → Type 0
+  ReplayLeaves before report bytes answer =
+      (report ≡ replayReport before st samples buffer) × (bytes ≡ replayedInto st samples buffer) × (answer ≡ replayAnswer st samples buffer)
+
+  numbered : (r : ReplayCall) (bytes : List ℕ) → ReplaySays r bytes → r .answer .number ≡ replayNumber st buffer
+  unfolding replayAnswer replayed
+  numbered r bytes says = ap (λ (a : ReplayAnswer). a .number) (says .1)
+
+  pub replay-stored : (before : Report) (r : ReplayCall) (bytes : List ℕ) → ReplaySays r bytes → r .answer .number ≡ 0
+      → ReplayLeaves before (r .report) bytes (r .answer)
+  unfolding replayReport
+  replay-stored before r bytes says zero =
+      (says .0 ∙ sym (given (replayNumber st buffer) _ _ (sym (numbered r bytes says) ∙ zero)), says .2, says .1)
+
+  pub replay-kept : (before : Report) (r : ReplayCall) (bytes : List ℕ) → ReplaySays r bytes → 0 < r .answer .number
+      → ReplayLeaves before before bytes (r .answer)
+  unfolding replayReport
+  replay-kept before r bytes says refused =
+      (sym (kept (replayNumber st buffer) _ before (subst (λ (n : ℕ). 0 < n) (numbered r bytes says) refused)), says .2, says .1)

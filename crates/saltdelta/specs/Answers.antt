@@ -3,7 +3,6 @@
 -- Assumes nothing.
 use mathlib.Core.List.{List}
 use Prim.Native.Nat.{ℕ}
-use lib.IntN.{pos}
 use lib.ListN as L
 use Rattle.rules.specs.Samples.{Slice}
 use Rattle.rules.specs.Regions.{ourEquipment}
@@ -15,7 +14,9 @@ use Rattle.rules.specs.declared.Report.{Report}
 use Rattle.rules.specs.declared.Answer.{Answer}
 use Rattle.rules.specs.declared.Settings.{Settings}
 use Rattle.rules.specs.declared.SettingsCheck.{SettingsCheck}
+use Rattle.replay.specs.Replays.{replayNumber, unlessRefused, replayed}
 use Rattle.saltdelta.specs.declared.SheetAnswer.{SheetAnswer}
+use Rattle.saltdelta.specs.declared.ReplayAnswer.{ReplayAnswer}
 
 -- ---- a step
 
@@ -31,10 +32,6 @@ stepNumber b s x = answerNumber (stepOf ourEquipment b s x .answer)
 abbrev pub reportOr : Report → Answer → Report
 reportOr before (Answer.Reported report) = report
 reportOr before (Answer.Refused cause) = before
-
--- the report of a refused call by value, which is stored nowhere
-abbrev pub noReport : Report
-noReport = record { status = 0; bits = 0; share = 0; watts = 0; vars = pos 0 }
 
 unfoldable pub reportAfter : Report → Board → Settings → Slice → Report
 reportAfter before b s x = reportOr before (stepOf ourEquipment b s x .answer)
@@ -58,3 +55,13 @@ settingsOr before (SettingsCheck.Refused cause line) read = before
 
 unfoldable pub settingsAfter : Settings → List ℕ → Settings
 settingsAfter before s = settingsOr before (readSheet s .check) (readSheet s .settings)
+
+-- ---- a replay
+
+unfoldable pub replayAnswer : Settings → List ℕ → List ℕ → ReplayAnswer
+replayAnswer st samples buffer =
+    record { number = replayed st samples buffer .number; accepted = replayed st samples buffer .accepted }
+
+-- the last report is stored, unless the replay is refused (spec 11.4)
+unfoldable pub replayReport : Report → Settings → List ℕ → List ℕ → Report
+replayReport before st samples buffer = unlessRefused (replayNumber st buffer) (replayed st samples buffer .report) before

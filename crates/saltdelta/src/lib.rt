@@ -5,7 +5,9 @@ ghost use Rattle.rules.specs.Refusals.{refusalNumber, savedNumber};
 ghost use Rattle.rules.specs.Records.{fresh};
 ghost use Rattle.rules.specs.Images.{saveCheck, savedInto};
 ghost use Rattle.rules.specs.Sheets.{readSheet};
-ghost use Rattle.saltdelta.specs.Answers.{sheetAnswer, settingsAfter, recordAfter, reportAfter, noReport, stepNumber};
+ghost use Rattle.claims.specs.Calls.{freshReport};
+ghost use Rattle.replay.specs.Replays.{replayed, replayedInto};
+ghost use Rattle.saltdelta.specs.Answers.{sheetAnswer, settingsAfter, recordAfter, reportAfter, stepNumber, replayAnswer, replayReport};
 use rules::Answer;
 use rules::Board;
 use rules::Refusal;
@@ -25,12 +27,27 @@ pub struct SheetAnswer {
     pub length: usize,
 }
 
+// What a replay answers: 0, or the refusal's number; and how many samples were accepted.
+#[repr(C)]
+pub struct ReplayAnswer {
+    pub number: u32,
+    pub accepted: usize,
+}
+
 // A fresh board record.
 #[no_mangle]
 pub extern "C" fn saltdelta_fresh() -> Board
     ensures { λ b. ⌜ b ≡ fresh ⌝ }
 {
     service::fresh()
+}
+
+// The report of a fresh board.
+#[no_mangle]
+pub extern "C" fn saltdelta_fresh_report() -> Report
+    ensures { λ r. ⌜ r ≡ freshReport ⌝ }
+{
+    service::fresh_report()
 }
 
 // Reads the sheet at the front of lent bytes into lent settings; a refused sheet leaves them as they were.
@@ -75,6 +92,27 @@ pub extern "C" fn saltdelta_save(board: &Board, buffer: &mut [u8]) -> u32
     save_number(*board, buffer)
 }
 
+// Lent samples, seven numbers each, replayed from a fresh record under lent settings: the last report, and the record's image at the front
+// of a lent buffer. A refused replay leaves report and buffer as they were.
+#[no_mangle]
+pub extern "C" fn saltdelta_replay(
+    settings: &Settings,
+    samples: &[u32],
+    report: &mut Report,
+    buffer: &mut [u8],
+) -> ReplayAnswer
+    ensures { λ r. ⌜ (now (report .exit) ≡ replayReport (now (report .entry)) (now (settings .entry)) (now (samples .entry)) (now (buffer .entry)))
+        × (now (buffer .exit) ≡ replayedInto (now (settings .entry)) (now (samples .entry)) (now (buffer .entry)))
+        × (r ≡ replayAnswer (now (settings .entry)) (now (samples .entry)) (now (buffer .entry))) ⌝ }
+{
+    let next = replay_call(*settings, samples, buffer);
+    if next.answer.number != 0 {
+        return next.answer;
+    }
+    *report = next.report;
+    next.answer
+}
+
 // ---- the calls by value
 
 // The answer of a sheet, with the settings beside it.
@@ -88,6 +126,12 @@ struct StepCall {
     board: Board,
     report: Report,
     number: u32,
+}
+
+// The answer of a replay, with the report beside it.
+struct ReplayCall {
+    report: Report,
+    answer: ReplayAnswer,
 }
 
 // The number of a cause.
@@ -129,10 +173,10 @@ fn sheet_call(bytes: &[u8]) -> SheetCall
     }
 }
 
-// A step by value; a refused one has a report of zeros, which nobody is given.
+// A step by value; a refused one has the fresh board's report, which nobody is given.
 fn step_call(b: Board, s: Settings, sample: &[u32]) -> StepCall
     ensures { λ r. ⌜ (r .board ≡ recordAfter b s (now (sample .entry)))
-        × (r .report ≡ reportAfter noReport b s (now (sample .entry)))
+        × (r .report ≡ reportAfter freshReport b s (now (sample .entry)))
         × (r .number ≡ stepNumber b s (now (sample .entry))) ⌝ }
 {
     let next = service::step::step(b, s, sample);
@@ -146,13 +190,7 @@ fn step_call(b: Board, s: Settings, sample: &[u32]) -> StepCall
         },
         Answer::Refused(cause) => StepCall {
             board,
-            report: Report {
-                status: 0,
-                bits: 0,
-                share: 0,
-                watts: 0,
-                vars: 0,
-            },
+            report: service::fresh_report(),
             number: number_of(cause),
         },
     }
@@ -165,5 +203,22 @@ fn save_number(b: Board, out: &mut [u8]) -> u32
     match image::save(b, out) {
         Saved::Written => 0,
         Saved::Refused(cause) => number_of(cause),
+    }
+}
+
+// A replay by value.
+fn replay_call(s: Settings, samples: &[u32], out: &mut [u8]) -> ReplayCall
+    ensures { λ r. ⌜ (r .report ≡ replayed s (now (samples .entry)) (now (out .entry)) .report)
+        × (r .answer ≡ replayAnswer s (now (samples .entry)) (now (out .entry)))
+        × (now (out .exit) ≡ replayedInto s (now (samples .entry)) (now (out .entry))) ⌝ }
+{
+    let next = replay::replay(s, samples, out);
+    let report = next.report;
+    ReplayCall {
+        report,
+        answer: ReplayAnswer {
+            number: next.number,
+            accepted: next.accepted,
+        },
     }
 }

@@ -13,6 +13,7 @@ ghost use Rattle.rules.specs.Reports.{packedAfter};
 ghost use Rattle.rules.specs.Records.{fresh, settled, next, stepOf};
 ghost use Rattle.claims.specs.FirstCause.{first, settingsCauses, sampleCauses};
 ghost use Rattle.readings.specs.Readings.{readingOf, Exportable};
+ghost use Rattle.claims.specs.Calls.{freshReport};
 ghost use Rattle.service.specs.Steps.{Bits, reported};
 use crate::powers::powers_in;
 use readings::reading::Reading;
@@ -40,6 +41,19 @@ pub fn fresh() -> Board
         status: 0,
         counters: [0; 9],
         ramp: 0,
+        watts: 0,
+        vars: 0,
+    }
+}
+
+// Its report, before the first sample (spec 8.2): tripped, with all bits, share, watts and vars 0.
+pub fn fresh_report() -> Report
+    ensures { λ r. ⌜ r ≡ freshReport ⌝ }
+{
+    Report {
+        status: 0,
+        bits: 0,
+        share: 0,
         watts: 0,
         vars: 0,
     }

@@ -14,6 +14,9 @@ enum-known-answer c = search needs
 enum-known-answer-2 : tie.Need-enum-known-answer-2
 enum-known-answer-2 c = search needs
 
+fresh-report-requires : tie.Need-fresh-report-requires
+fresh-report-requires c κs = search needs
+
 number-of-requires : tie.Need-number-of-requires
 number-of-requires c κs = search needs
 
@@ -25,9 +28,10 @@ returns c =
 
 returns-2 : tie.Need-returns-2
 returns-2 c =
-    let a = c .before .before .before .before .before .before .before .args in
-    let t = c .before .before .before .before .before .step in
-    refused (a .b) (a .s) _ (t .result) (t .ensures .0) _ _ (c .before .before .answer2 .given .1) (c .number-of .ensures)
+    let a = c .before .before .before .before .before .before .before .before .args in
+    let t = c .before .before .before .before .before .before .step in
+    refused (a .b) (a .s) _ (t .result) (t .ensures .0) _ _ _ (c .before .before .before .answer2 .given .1) (c .before .fresh-report .ensures)
+    (c .number-of .ensures)
 
 pub step-call-spec : {M : Type 1} → statement M
 step-call-spec =
@@ -36,6 +40,7 @@ step-call-spec =
     step-requires
     enum-known-answer
     enum-known-answer-2
+    fresh-report-requires
     number-of-requires
     returns
     returns-2)

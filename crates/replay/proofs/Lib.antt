@@ -1,0 +1,5 @@
+pub mod Groups
+pub mod Stepping
+pub mod Answering
+pub mod Runs
+pub mod Demanded

@@ -1,0 +1,42 @@
+-- The exported functions, in the words of their contracts, as a board program and as a replay: of these demands 2 and 3 are claimed.
+-- Assumes nothing.
+use mathlib.Core.List.{List, [], _∷_}
+use Prim.Native.Nat.{ℕ, _-_}
+use lib.ListN.{getD}
+use Rattle.rules.specs.Samples.{Slice}
+use Rattle.rules.specs.Records.{fresh}
+use Rattle.rules.specs.declared.Board.{Board}
+use Rattle.rules.specs.declared.Report.{Report}
+use Rattle.rules.specs.declared.Answer.{Answer}
+use Rattle.rules.specs.declared.Settings.{Settings}
+use Rattle.rules.specs.declared.Stepped.{Stepped}
+use Rattle.rules.specs.declared.Refusal.{Refusal}
+use Rattle.rules.specs.declared.Refusal.the-variants.{Form, Range, Rise, Code, Frequency, Permission, Power, Sample, Buffer}
+use Rattle.claims.specs.Calls.{Program}
+use Rattle.replay.specs.Replays.{unlessRefused}
+use Rattle.replay.specs.declared.Replayed.{Replayed}
+use Rattle.saltdelta.specs.Answers.{recordAfter, reportAfter, stepNumber, replayAnswer, replayReport}
+
+-- spec 11.1: the causes in the order of their numbers, from 1
+abbrev pub causeOf : ℕ → Refusal
+causeOf n = getD (Form ∷ Range ∷ Rise ∷ Code ∷ Frequency ∷ Permission ∷ Power ∷ Sample ∷ Buffer ∷ []) (n - 1) Form
+
+-- what a number and a report answer: 0 is the report, any other number its cause
+abbrev pub answerBy : ℕ → Report → Answer
+answerBy n report = unlessRefused n (Answer.Reported report) (Answer.Refused (causeOf n))
+
+-- `saltdelta_fresh` and `saltdelta_step`, where a report is lent that stands as it was
+abbrev pub exportedStep : Report → Board → Settings → Slice → Stepped
+exportedStep before b st x = record { board = recordAfter b st x; answer = answerBy (stepNumber b st x) (reportAfter before b st x) }
+
+abbrev pub exportedBoard : Report → Program
+exportedBoard before = record { start = fresh; step = exportedStep before }
+
+-- `saltdelta_replay`, where such a report is lent
+abbrev pub exportedReplay : Report → Settings → List ℕ → List ℕ → Replayed
+exportedReplay before st samples buffer =
+    record {
+      number = replayAnswer st samples buffer .number;
+      accepted = replayAnswer st samples buffer .accepted;
+      report = replayReport before st samples buffer;
+    }
