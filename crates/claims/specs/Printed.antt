@@ -1,5 +1,5 @@
--- Demand 2 of what is printed (spec 10.3 to 10.7, 13.2), as a claim about any program from input to output: an answer for each line after
--- the sheet, by the accepted samples among the lines alone.
+-- Demand 2 of what is printed (spec 10.3 to 10.7, 13.2), as a claim about any program from input to output: a refused sheet's refusal line and
+-- nothing else; or an answer for each line after the sheet, by the accepted samples among the lines alone.
 -- Assumes nothing.
 use mathlib.Core.Path.{_≡_}
 use mathlib.Core.Bool.{Bool, true, false, cond, _&&_}
@@ -13,6 +13,7 @@ use lib.ListN.{length, getD, take}
 use Rattle.rules.specs.Text.{bytes}
 use Rattle.rules.specs.Forms.{sampleForm, numbersOf}
 use Rattle.rules.specs.Samples.{Slice, Equipment, permitted, sampleAccepted}
+use Rattle.rules.specs.Regions.{regionOf}
 use Rattle.rules.specs.Refusals.{refusalNumber}
 use Rattle.rules.specs.Reports.{reportOf}
 use Rattle.rules.specs.History.{History, historyReport}
@@ -20,6 +21,7 @@ use Rattle.rules.specs.Sheets.{readSheet, handedBack}
 use Rattle.rules.specs.Transcripts.{Line, ended, unended, linesIn, reportLine, refusedLine, inputEnd}
 use Rattle.rules.specs.declared.Settings.{Settings}
 use Rattle.rules.specs.declared.Refusal.{Refusal}
+use Rattle.rules.specs.declared.Region.the-variants.{Continuous}
 use Rattle.rules.specs.declared.SettingsCheck.{SettingsCheck}
 use Rattle.claims.specs.Held.{RanOut, WaitFull}
 use Rattle.claims.specs.FirstCause.{Cause, cause, first, sampleCauses}
@@ -134,13 +136,19 @@ pub record Printed (e : Equipment) (st : Settings) (lines : List Line) (text : L
   -- tripped by it, or with none before it, the report says another word exactly when the full wait has just been in range with permission on
   pub returns : (k : ℕ) (x : Slice) → SampleAt lines k x → lastShown (take k answers) ≡ trippedWord
       → (¬ (statusWord (getD answers k []) ≡ trippedWord)) ↔ WaitFull e st (x ∷ samplesOn (take k lines))
+  -- and it does so in the continuous operation region only
+  pub returns-continuous : (k : ℕ) (x : Slice) → SampleAt lines k x → lastShown (take k answers) ≡ trippedWord
+      → ¬ (statusWord (getD answers k []) ≡ trippedWord) → regionOf e x ≡ Continuous
 
 -- spec 10.9: the part of an input that is read
 abbrev pub readPart : List ℕ → List ℕ
 readPart input = take inputEnd input
 
--- of a program that prints a text for each input: where the sheet is accepted, it prints what it should for the lines after it
-abbrev pub PrintsByHistory : Equipment → (List ℕ → List ℕ) → Type 0
-PrintsByHistory e print =
-    (input : List ℕ) → readSheet (readPart input) .check ≡ SettingsCheck.Accepted
-    → Printed e (readSheet (readPart input) .settings) (linesIn (handedBack (readPart input))) (print input)
+-- of a program that prints a text for each input
+pub record PrintsByHistory (e : Equipment) (print : List ℕ → List ℕ) : Type 0 where
+  -- spec 10.6: where the sheet is refused, its refusal line and nothing else
+  pub sheet-refused : (input : List ℕ) (why : Refusal) (line : ℕ) → readSheet (readPart input) .check ≡ SettingsCheck.Refused why line
+      → print input ≡ refusedLine why line
+  -- where it is accepted, what should be printed for the lines after it
+  pub sheet-accepted : (input : List ℕ) → readSheet (readPart input) .check ≡ SettingsCheck.Accepted
+      → Printed e (readSheet (readPart input) .settings) (linesIn (handedBack (readPart input))) (print input)

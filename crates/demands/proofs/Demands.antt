@@ -33,7 +33,7 @@ use Rattle.demands.specs.Demands.{ShamsCaught, ShamImagesCaught, ShamRea
 use Rattle.demands.specs.Demands.{PowerLaws}
 use Rattle.demands.specs.Demands.{AlikeEquipmentStepsAlike, OurPrinted, OnePrinting, SamplesOnLines, StatusWordsTell, BitsUnpacked}
 use Rattle.demands.specs.Demands.{ReportsAreItems, OurTwoHistoriesReported}
-use Rattle.demands.specs.Demands.{OurLentRecords, LentValues, RightReportsTrip, ShamRefusalsCaught, ShamReportsCaught}
+use Rattle.demands.specs.Demands.{OurLentRecords, LentValues, RightReportsTrip, ShamRefusalsCaught, ShamReportsCaught, ShamPrintingsCaught}
 use Rattle.claims.specs.TripAndReturn.{Demand2}
 use Rattle.claims.specs.TwoHistories.{Demand3}
 use Rattle.replay.proofs.Groups.{by-seven}
@@ -48,10 +48,11 @@ use Rattle.demands.proofs.Lent.{lent-read}
 use Rattle.demands.proofs.Printed.{prints-by-history, one-printing, samples-on-lines}
 use Rattle.demands.proofs.Writable.{accepted-writable}
 use Rattle.demands.proofs.Sound.{our-equipment-sound}
-use Rattle.demands.proofs.Shams.{quick-accepted, waiting-accepted, early, invented, tripped, repeated, kept, refusing, as-lent}
+use Rattle.demands.proofs.Shams.{quick-accepted, waiting-accepted, early, invented, tripped, repeated, kept, refusing, leaving, as-lent}
 use Rattle.demands.proofs.Shams.{no-ramp, no-ninth, no-bits}
 use Rattle.demands.proofs.ShamStatus.{only-reports, only-trips, only-returns}
 use Rattle.demands.proofs.ShamReadings.{turned-away, let-in}
+use Rattle.demands.proofs.ShamPrintings.{no-more, not-nothing}
 use Rattle.demands.proofs.ShamLines.{no-large, no-unended, no-return}
 use Rattle.demands.proofs.ShamRefusals.{last-code, reading-stored, sample-first, written-short, good-sheet, from-zero, rest-handed}
 
@@ -106,10 +107,10 @@ pub sampleLinesWrittenOut : SampleLinesWrittenOut
 sampleLinesWrittenOut = sample-written-out
 
 pub ourPrinted : OurPrinted
-ourPrinted = prints-by-history ourEquipment
+ourPrinted = prints-by-history ourEquipment our-equipment-sound
 
 pub onePrinting : OnePrinting
-onePrinting = one-printing ourEquipment
+onePrinting = one-printing ourEquipment our-equipment-sound
 
 pub samplesOnLines : SamplesOnLines
 samplesOnLines = samples-on-lines
@@ -166,6 +167,7 @@ shamsCaught =
       repeated = repeated;
       kept = kept;
       refusing = refusing;
+      leaving = leaving;
     }
 
 pub shamReportsCaught : ShamReportsCaught
@@ -189,6 +191,9 @@ shamImagesCaught = record { accepted = (quick-accepted, waiting-accepted); ramp 
 pub shamReadingsCaught : ShamReadingsCaught
 shamReadingsCaught =
     record { turnedAway = turned-away; unended = let-in; large = no-large; unendedSample = no-unended; carriageReturn = no-return; asLent = as-lent }
+
+pub shamPrintingsCaught : ShamPrintingsCaught
+shamPrintingsCaught = record { goes-on = no-more; nothing = not-nothing }
 
 pub anyTripAndReturn : AnyTripAndReturn
 anyTripAndReturn e sound = demand2 e sound

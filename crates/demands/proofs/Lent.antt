@@ -1,13 +1,16 @@
 -- The lent records are read as their rows say: antt computes each reading from the definitions.
 -- Assumes nothing.
 use mathlib.Core.Path.{refl}
-use Rattle.rules.specs.Tests.{within}
+use Rattle.rules.specs.Tests.{all, within}
+use Rattle.rules.specs.Settings.{rows, inRow, rising, checkFrom, linesOf, settingsCheck}
 use Rattle.rules.specs.Records.{each, readAs}
-use Rattle.demands.specs.Lent.{lentRows, waitRows, LentRead}
+use Rattle.demands.specs.Lent.{lentRows, waitRows, otherRows, LentRead}
 
 pub lent-read : LentRead
-unfolding LentRead lentRows waitRows readAs each within
+unfolding LentRead lentRows waitRows otherRows readAs each all within rows inRow rising checkFrom linesOf settingsCheck
 lent-read = (
   (refl, (refl, (refl, (refl, (refl, (refl, (refl, (refl, (refl, (refl, (refl, (refl, (refl, (refl, (refl, (refl, (refl, (refl, (refl, (refl, (refl, (refl, (refl, (refl, (refl, (refl, (refl, (refl, (refl, (refl, (refl, tt))))))))))))))))))))))))))))))),
   (refl, (refl, (refl, tt))),
+  refl,
+  (refl, (refl, (refl, (refl, (refl, (refl, (refl, (refl, (refl, (refl, (refl, (refl, tt)))))))))))),
 )

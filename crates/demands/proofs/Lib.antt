@@ -8,6 +8,7 @@ pub mod Writable
 pub mod ShamReadings
 pub mod ShamLines
 pub mod ShamRefusals
+pub mod ShamPrintings
 pub mod Printed
 pub mod Contracts
 pub mod Demands

@@ -1,4 +1,4 @@
--- What is printed for an input with an accepted sheet; and which lines have a sample.
+-- What is printed for an input, its sheet accepted or refused; and which lines have a sample.
 -- Assumes nothing.
 use mathlib.Core.Path.{_≡_, refl, sym, ap, _∙_}
 use mathlib.Core.Bool.{true}
@@ -12,12 +12,14 @@ use Rattle.rules.specs.Forms.{sampleForm, numbersOf}
 use Rattle.rules.specs.Samples.{Slice, Equipment}
 use Rattle.rules.specs.Records.{fresh}
 use Rattle.rules.specs.Sheets.{readSheet, partOf, handedBack}
-use Rattle.rules.specs.Transcripts.{Line, ended, unended, linesIn, answersFrom, onSheet, transcriptOf, transcript}
+use Rattle.rules.specs.Transcripts.{Line, ended, unended, linesIn, refusedLine, answersFrom, onSheet, transcriptOf, transcript}
+use Rattle.rules.specs.declared.Refusal.{Refusal}
 use Rattle.rules.specs.declared.SettingsCheck.{SettingsCheck}
 use Rattle.formats.specs.Samples.{writable, writtenSample}
 use Rattle.formats.proofs.Sheets.{sheet-written-out}
 use Rattle.formats.proofs.Samples.{sample-read, sample-written}
 use Rattle.formats.proofs.SampleLines.{numbers-same}
+use Rattle.claims.specs.Sound.{Sound}
 use Rattle.claims.specs.Printed.{asSlice, sampleOn, Printed, readPart, PrintsByHistory}
 use Rattle.laws.proofs.Printed.{lines-printed, one-printed}
 
@@ -34,16 +36,31 @@ module _ (e : Equipment) (s : List ℕ) (a : readSheet s .check ≡ SettingsChec
       ap (λ (c : SettingsCheck). onSheet e (readSheet s) c s) a
       ∙ ap (λ (t : List ℕ). answersFrom e (readSheet s .settings) fresh 14 (linesIn t)) (sym rest-is)
 
-  text-printed : Printed e (readSheet s .settings) (linesIn (handedBack s)) (transcriptOf e s)
-  text-printed = rw answers-are (lines-printed e (readSheet s .settings) (sheet-written-out s a .accepted) (linesIn (handedBack s)))
+  text-printed : Sound e → Printed e (readSheet s .settings) (linesIn (handedBack s)) (transcriptOf e s)
+  text-printed sound = rw answers-are (lines-printed e (readSheet s .settings) (sheet-written-out s a .accepted) (linesIn (handedBack s)) sound)
 
-pub prints-by-history : (e : Equipment) → PrintsByHistory e (transcript e)
+refusal-printed : (e : Equipment) (s : List ℕ) (why : Refusal) (line : ℕ) → readSheet s .check ≡ SettingsCheck.Refused why line
+    → transcriptOf e s ≡ refusedLine why line
+unfolding transcriptOf
+refusal-printed e s why line r = ap (λ (c : SettingsCheck). onSheet e (readSheet s) c s) r
+
+pub prints-by-history : (e : Equipment) → Sound e → PrintsByHistory e (transcript e)
 unfolding transcript
-prints-by-history e input a = text-printed e (readPart input) a
+prints-by-history e sound =
+    record {
+      sheet-refused = λ input why line r. refusal-printed e (readPart input) why line r;
+      sheet-accepted = λ input a. text-printed e (readPart input) a sound;
+    }
 
-pub one-printing : (e : Equipment) (print : List ℕ → List ℕ) → PrintsByHistory e print
-    → (input : List ℕ) → readSheet (readPart input) .check ≡ SettingsCheck.Accepted → print input ≡ transcript e input
-one-printing e print p input a = one-printed e _ _ (print input) (transcript e input) (p input a) (prints-by-history e input a)
+pub one-printing : (e : Equipment) → Sound e → (print : List ℕ → List ℕ) → PrintsByHistory e print → (input : List ℕ) → print input ≡ transcript e input
+one-printing e sound print p input = by (readSheet (readPart input) .check) refl
+  where
+    ours : PrintsByHistory e (transcript e)
+    ours = prints-by-history e sound
+
+    by : (c : SettingsCheck) → readSheet (readPart input) .check ≡ c → print input ≡ transcript e input
+    by SettingsCheck.Accepted a = one-printed e _ _ (print input) (transcript e input) (p .sheet-accepted input a) (ours .sheet-accepted input a)
+    by (SettingsCheck.Refused why line) r = p .sheet-refused input why line r ∙ sym (ours .sheet-refused input why line r)
 
 -- ---- the sample on a line
 

@@ -30,7 +30,8 @@ use Rattle.claims.specs.TripAndReturn.{recordOf, TripAndReturn}
 use Rattle.claims.specs.LentRecords.{ReadsRecords}
 use Rattle.claims.specs.TwoHistories.{TwoHistoriesBy}
 use Rattle.demands.specs.Shams.{exampleSheet, tripsEarly, inventsCounters, alwaysTripped, repeatsFirst, keepsRecord, turnsAway, takesAsLent}
-use Rattle.demands.specs.Shams.{savedWithoutRamp, savedWithoutNinth, reportWithoutBits}
+use Rattle.demands.specs.ShamRefusals.{refusesLastCode}
+use Rattle.demands.specs.Shams.{turnsAwayLastCode, savedWithoutRamp, savedWithoutNinth, reportWithoutBits}
 use Rattle.demands.proofs.ShamReport.{agree-without-bits}
 
 abbrev quick : Settings
@@ -90,6 +91,16 @@ pub refusing : ¬ TripAndReturn ourEquipment turnsAway quick
 unfolding turnsAway all any within largest voltage rows inRow rising checkFrom linesOf settingsCheck sampleCheck broken inRange voltageRegion frequencyRegion regionOf curveFrom curve nameplate varsOf wattsOf reportOf fresh each readAs settled ruled next shown stepOf streak serving climbed historyStatus historyShare historyWatts historyVars historyReport
 refusing d =
     let e : _≡_ {A = ℕ} 4 0 = ap answerNumber (d .answers (calm ∷ []) calm (record { under = (inl refl, tt); lends = inl refl; accepted = refl })) in
+    omega arith
+
+-- a first sample with a code of 4095: ours reports it
+abbrev lastCodeOnce : Call
+lastCodeOnce = record { settings = quick; slice = 4095 ∷ 1000 ∷ 1000 ∷ 60000 ∷ 1 ∷ 10000 ∷ 10000 ∷ [] }
+
+pub leaving : ¬ TripAndReturn ourEquipment turnsAwayLastCode quick
+unfolding turnsAwayLastCode refusesLastCode all any within rows inRow rising checkFrom linesOf settingsCheck sampleCheck stepOf
+leaving d =
+    let e : _≡_ {A = ℕ} 4 0 = ap answerNumber (d .answers [] lastCodeOnce (record { under = tt; lends = inl refl; accepted = refl })) in
     omega arith
 
 -- in service with a ramp count one above the ramp length, in mandatory operation, where the count stays

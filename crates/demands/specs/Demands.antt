@@ -54,7 +54,7 @@ use Rattle.claims.specs.TripAndReturn.{Demand2}
 use Rattle.claims.specs.TwoHistories.{TwoHistoriesBy, Demand3By, Demand3}
 use Rattle.claims.specs.Bits.{UnpacksBits}
 use Rattle.claims.specs.LentRecords.{ReadsRecords}
-use Rattle.claims.specs.Printed.{sampleOn, statusWord, readPart, PrintsByHistory}
+use Rattle.claims.specs.Printed.{sampleOn, statusWord, Prints, PrintsByHistory}
 use Rattle.replay.specs.Replays.{groups, replayed, replayedInto}
 use Rattle.replay.specs.Demanded.{GroupsBySeven, ReplaysRightly}
 use Rattle.saltdelta.specs.Refuses.{ExportedRefuse}
@@ -72,6 +72,7 @@ use Rattle.demands.specs.Lent.{LentRead}
 use Rattle.demands.specs.Shams.{exampleSheet, tripsEarly, inventsCounters, alwaysTripped, repeatsFirst, keepsRecord, turnsAway}
 use Rattle.demands.specs.Shams.{inventsBits, hidesTrips, saysTripped, savedWithoutRamp, savedWithoutNinth, reportWithoutBits, refusesNoWait}
 use Rattle.demands.specs.Shams.{takesAsLent, takesUnended, largeNoNumber, stepsUnended, stepsPastReturn}
+use Rattle.demands.specs.Shams.{turnsAwayLastCode, goesOn, saysNothing}
 use Rattle.demands.specs.ShamRefusals.{refusesLastCode, storesReading, sampleFirst, writesWhatFits, linesFromZero, handsRest}
 
 abbrev pub ours : Program
@@ -183,20 +184,20 @@ SampleLinesWrittenOut =
 
 -- ---- demand 2 of what is printed
 
--- `PrintsByHistory` in claims/specs/Printed.antt. For every input with an accepted sheet, in its first 10^12 bytes, the transcript is an answer for each
--- line after the sheet, one after the other. A line that is an accepted sample has the report line of what it and the accepted samples before
+-- `PrintsByHistory` in claims/specs/Printed.antt. For every input whose sheet, in its first 10^12 bytes, is refused, the transcript is the sheet's
+-- refusal line and nothing else. For every input with an accepted sheet there it is an answer for each line after the sheet, one after the
+-- other. A line that is an accepted sample has the report line of what it and the accepted samples before
 -- it, on whichever lines, alone give; any other line has the refusal line with its first cause and its number, and is no step. So
 -- of the status words that are printed: after a report that says another word than `tripped`, the next report says `tripped` exactly when
 -- permission is off or a limit was broken at each of the last samples of its whole clearing time; after one that says `tripped`, or none, the next says
--- another word exactly when each of the last samples of the full wait was in range with permission on.
+-- another word exactly when each of the last samples of the full wait was in range with permission on, and always in the continuous operation region.
 abbrev pub OurPrinted : Type 0
 OurPrinted = PrintsByHistory ourEquipment (transcript ourEquipment)
 
--- So there is no choice in what is printed: every program with this property prints, where the sheet is accepted, what ours does.
+-- So there is no choice in what is printed: every program with this property prints, whatever the input, what ours does.
 abbrev pub OnePrinting : Type 0
 OnePrinting =
-    (print : List ℕ → List ℕ) → PrintsByHistory ourEquipment print
-    → (input : List ℕ) → readSheet (readPart input) .check ≡ SettingsCheck.Accepted → print input ≡ transcript ourEquipment input
+    (print : List ℕ → List ℕ) → PrintsByHistory ourEquipment print → (input : List ℕ) → print input ≡ transcript ourEquipment input
 
 -- A line's sample there (`sampleOn`) is x exactly when the line is x written out and ended, x having seven numbers of at most six digits.
 abbrev pub SamplesOnLines : Type 0
@@ -232,7 +233,7 @@ OurTwoHistoriesReported = Demand3By savedInto (λ st h. reportOf (historyReport 
 abbrev pub OurLentRecords : Type 0
 OurLentRecords = ReadsRecords ourEquipment ours
 
--- The rows of spec 5.4 as values, one table: specs/Lent.antt.
+-- The rows of spec 5.4 as values, one table, under sheets with different numbers: specs/Lent.antt.
 abbrev pub LentValues : Type 0
 LentValues = LentRead
 
@@ -271,8 +272,9 @@ EdgeValues = EdgesHold
 
 -- ---- the demands are not empty: shams do not meet them
 
--- The sham boards of spec 13.6, and a board that turns away good samples, do not meet demand 2 on the sheet of spec 10.11: some list of calls
--- tells each of them from ours. That sheet is accepted, so that demand 2, which speaks of every accepted sheet, is false of each of them.
+-- The sham boards of spec 13.6, and two boards that turn away good samples, one moving its record as if it had taken them and one leaving it, do
+-- not meet demand 2 on the sheet of spec 10.11: some list of calls tells each of them from ours. That sheet is
+-- accepted, so that demand 2, which speaks of every accepted sheet, is false of each of them.
 pub record ShamsCaught : Type 0 where
   pub accepted : settingsAccepted (exampleSheet 0) ≡ true
   pub early : ¬ TripAndReturn ourEquipment tripsEarly (exampleSheet 0)
@@ -281,6 +283,7 @@ pub record ShamsCaught : Type 0 where
   pub repeated : ¬ TripAndReturn ourEquipment repeatsFirst (exampleSheet 0)
   pub kept : ¬ TripAndReturn ourEquipment keepsRecord (exampleSheet 0)
   pub refusing : ¬ TripAndReturn ourEquipment turnsAway (exampleSheet 0)
+  pub leaving : ¬ TripAndReturn ourEquipment turnsAwayLastCode (exampleSheet 0)
 
 -- Three shams keep the record and refuse as they should, and show other reports. The first turns every bit over, and fails by its reports alone. The
 -- second says `entering` at the step at which it trips, the third always says `tripped`: of the parts of demand 2 that do not compare whole
@@ -326,6 +329,11 @@ pub record ShamReadingsCaught : Type 0 where
   pub unendedSample : ¬ AnswersSamples stepsUnended
   pub carriageReturn : ¬ AnswersSamples stepsPastReturn
   pub asLent : ¬ ReadsRecords ourEquipment takesAsLent
+
+-- A program that goes on after a refused sheet, by the default settings, and one that prints nothing for it, print something else than they should.
+pub record ShamPrintingsCaught : Type 0 where
+  pub goes-on : ¬ PrintsByHistory ourEquipment goesOn
+  pub nothing : ¬ PrintsByHistory ourEquipment saysNothing
 
 -- ---- wider than asked: any sensing table and any voltage regions with the facts of `Sound`, which ours have
 

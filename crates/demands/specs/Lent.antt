@@ -1,15 +1,17 @@
 -- Spec 5.4: lent records and how each is read, as rows of one table, under the sheet of spec 10.11. The tops of its counters: 2100, 200,
--- 1300, 16, 30000, 16, 30000, 16, and 1 for the ninth, its wait being 0; its ramp length is 100.
+-- 1300, 16, 30000, 16, 30000, 16, and 1 for the ninth, its wait being 0; its ramp length is 100. Then rows under sheets with other numbers.
 -- Assumes nothing.
 use mathlib.Core.Path.{_≡_}
+use mathlib.Core.Bool.{true}
 use mathlib.Core.List.{List, [], _∷_}
 use Prim.Native.Nat.{ℕ}
 use lib.IntN.{ℤ, pos, negℤ}
+use Rattle.rules.specs.Settings.{settingsAccepted}
 use Rattle.rules.specs.Regions.{ourEquipment}
 use Rattle.rules.specs.Records.{readAs}
 use Rattle.rules.specs.declared.Settings.{Settings}
 use Rattle.rules.specs.declared.Board.{Board}
-use Rattle.demands.specs.Shams.{exampleSheet}
+use Rattle.demands.specs.Shams.{limit, exampleSheet}
 
 -- uv1 uv2 ov1 ov2 uf1 uf2 of1 of2 and the ninth
 abbrev pub nine : ℕ → ℕ → ℕ → ℕ → ℕ → ℕ → ℕ → ℕ → ℕ → List ℕ
@@ -89,6 +91,51 @@ waitRows =
     ∷ stands (board 0 (nine 0 0 0 0 0 0 0 0 2) 0 0 (pos 0))
     ∷ []
 
+-- a sheet with other clearing times (ov2 allows 16 alone, spec 3.5), wait and ramp length
+abbrev pub otherSheet : Settings
+otherSheet =
+    record {
+      trip =
+          limit 8000 2500
+          ∷ limit 4500 300
+          ∷ limit 11500 700
+          ∷ limit 12000 16
+          ∷ limit 58000 18000
+          ∷ limit 56000 160
+          ∷ limit 61500 45000
+          ∷ limit 63000 250
+          ∷ [];
+      volts = exampleSheet 0 .volts;
+      hertz = exampleSheet 0 .hertz;
+      wait = 40;
+      ramp = 5000;
+      var = exampleSheet 0 .var;
+      watt = exampleSheet 0 .watt;
+    }
+
+unfoldable pub otherRows : List Row
+otherRows =
+    -- a counter one above its top
+    row (board 1 (nine 2501 0 0 0 0 0 0 0 0) 0 0 (pos 0)) (board 1 (nine 2500 0 0 0 0 0 0 0 0) 0 0 (pos 0))
+    ∷ row (board 1 (nine 0 301 0 0 0 0 0 0 0) 0 0 (pos 0)) (board 1 (nine 0 300 0 0 0 0 0 0 0) 0 0 (pos 0))
+    ∷ row (board 1 (nine 0 0 701 0 0 0 0 0 0) 0 0 (pos 0)) (board 1 (nine 0 0 700 0 0 0 0 0 0) 0 0 (pos 0))
+    ∷ row (board 1 (nine 0 0 0 17 0 0 0 0 0) 0 0 (pos 0)) (board 1 (nine 0 0 0 16 0 0 0 0 0) 0 0 (pos 0))
+    ∷ row (board 1 (nine 0 0 0 0 18001 0 0 0 0) 0 0 (pos 0)) (board 1 (nine 0 0 0 0 18000 0 0 0 0) 0 0 (pos 0))
+    ∷ row (board 1 (nine 0 0 0 0 0 161 0 0 0) 0 0 (pos 0)) (board 1 (nine 0 0 0 0 0 160 0 0 0) 0 0 (pos 0))
+    ∷ row (board 1 (nine 0 0 0 0 0 0 45001 0 0) 0 0 (pos 0)) (board 1 (nine 0 0 0 0 0 0 45000 0 0) 0 0 (pos 0))
+    ∷ row (board 1 (nine 0 0 0 0 0 0 0 251 0) 0 0 (pos 0)) (board 1 (nine 0 0 0 0 0 0 0 250 0) 0 0 (pos 0))
+    ∷ row (board 1 (nine 0 0 0 0 0 0 0 0 41) 0 0 (pos 0)) (board 1 (nine 0 0 0 0 0 0 0 0 40) 0 0 (pos 0))
+    -- the ramp count one above the ramp length
+    ∷ row (board 2 (nine 0 0 0 0 0 0 0 0 0) 5001 0 (pos 0)) (board 2 (nine 0 0 0 0 0 0 0 0 0) 5000 0 (pos 0))
+    -- all at their tops, and one below
+    ∷ stands (board 2 (nine 2500 300 700 16 18000 160 45000 250 40) 5000 0 (pos 0))
+    ∷ stands (board 2 (nine 2499 299 699 15 17999 159 44999 249 39) 4999 0 (pos 0))
+    ∷ []
+
 -- the one statement that covers the rows
 unfoldable pub LentRead : Type 0
-LentRead = AllRead (exampleSheet 0) lentRows × AllRead (exampleSheet 60000) waitRows
+LentRead =
+    AllRead (exampleSheet 0) lentRows
+    × AllRead (exampleSheet 60000) waitRows
+    × (settingsAccepted otherSheet ≡ true)
+    × AllRead otherSheet otherRows

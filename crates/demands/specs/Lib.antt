@@ -1,6 +1,6 @@
 pub mod Edges
-pub mod Shams
 pub mod ShamRefusals
+pub mod Shams
 pub mod Lent
 pub mod Contracts
 pub mod Demands

@@ -1,15 +1,15 @@
 -- Spec 13.6: the sham boards that demand 2 must stop; sham images and reports that demand 3 must
--- stop; sham readings of sheets and of lines; and sham answers to sample lines. Those that demand 1 must stop: ShamRefusals.antt.
+-- stop; sham readings of sheets and of lines; sham answers to sample lines; and sham printings. Those that demand 1 must stop: ShamRefusals.antt.
 -- Assumes nothing.
 use mathlib.Core.Bool.{Bool, false, cond, _&&_}
 use mathlib.Core.List.{List, [], _∷_, _++_, map}
 use mathlib.Core.Option.{Option, none, some}
-use Prim.Native.Nat.{ℕ, _-_, _*_, _/_, max}
+use Prim.Native.Nat.{ℕ, suc, _-_, _*_, _/_, max}
 use lib.Dec.{eqb, leb}
 use lib.IntN.{ℤ, pos, natAbs, negℤ}
-use lib.ListN.{replicate, set, take}
+use lib.ListN.{replicate, set, take, drop}
 use Rattle.rules.specs.Tests.{all, any}
-use Rattle.rules.specs.Text.{feed}
+use Rattle.rules.specs.Text.{feed, afterLine}
 use Rattle.rules.specs.Forms.{numbersOf}
 use Rattle.rules.specs.Sheets.{SheetReading, refusedAt, readSheet}
 use Rattle.rules.specs.Samples.{Slice}
@@ -20,20 +20,24 @@ use Rattle.rules.specs.Images.{savedInto}
 use Rattle.rules.specs.Service.{inService}
 use Rattle.rules.specs.Refusals.{answerNumber}
 use Rattle.rules.specs.Records.{fresh, settled, ruled, shown, stepOf}
-use Rattle.rules.specs.Transcripts.{Line, ended, unended, lineStep}
+use Rattle.rules.specs.Defaults.{defaultSettings}
+use Rattle.rules.specs.Transcripts.{Line, ended, unended, linesIn, lineStep, answersFrom, transcript}
 use Rattle.rules.specs.declared.Limit.{Limit}
 use Rattle.rules.specs.declared.Point.{Point}
 use Rattle.rules.specs.declared.Settings.{Settings}
 use Rattle.rules.specs.declared.Board.{Board}
 use Rattle.rules.specs.declared.Refusal.the-variants.{Range, Code}
 use Rattle.rules.specs.declared.Report.{Report}
+use Rattle.rules.specs.declared.SettingsCheck.{SettingsCheck}
 use Rattle.rules.specs.declared.Answer.{Answer}
 use Rattle.rules.specs.declared.Stepped.{Stepped}
 use Rattle.formats.specs.Samples.{Answering}
 use Rattle.claims.specs.Calls.{Program}
+use Rattle.claims.specs.Printed.{readPart}
+use Rattle.demands.specs.ShamRefusals.{refusesLastCode}
 
 -- the default sheet (spec 3.3) with `(enter (wait W 100))`
-abbrev limit : ℕ → ℕ → Limit
+abbrev pub limit : ℕ → ℕ → Limit
 limit level clearing = record { level = level; clearing = clearing }
 
 abbrev point : ℕ → ℤ → Point
@@ -127,6 +131,10 @@ turnsAway =
           let t = honest b st x in
           record { board = t .board; answer = cond (eqb (b .status) (t .board .status)) (Answer.Refused Code) (t .answer) };
     }
+
+-- turns away good samples, those with a code of 4095, with 4, and leaves the record: the step of `refusesLastCode`
+unfoldable pub turnsAwayLastCode : Program
+turnsAwayLastCode = record { start = fresh; step = refusesLastCode .step }
 
 -- takes a lent record as it stands, not as it is read (spec 5.4)
 unfoldable pub takesAsLent : Program
@@ -241,3 +249,24 @@ cleaned (unended s) = unended s
 
 unfoldable pub stepsPastReturn : Answering
 stepsPastReturn e st b l = lineStep e st b (cleaned l)
+
+-- ---- sham printings: what ours prints, but where the sheet is refused
+
+-- the answers to the lines after the refused one, by the default settings
+abbrev furtherAnswers : SettingsCheck → List ℕ → List ℕ
+furtherAnswers SettingsCheck.Accepted rest = []
+furtherAnswers (SettingsCheck.Refused cause line) rest = answersFrom ourEquipment defaultSettings fresh (suc line) (linesIn (afterLine rest))
+
+-- it goes on after the refusal line
+unfoldable pub goesOn : List ℕ → List ℕ
+goesOn input =
+    let r = readSheet (readPart input) in
+    transcript ourEquipment input ++ furtherAnswers (r .check) (drop (r .start) (readPart input))
+
+abbrev ifAccepted : SettingsCheck → List ℕ → List ℕ
+ifAccepted SettingsCheck.Accepted text = text
+ifAccepted (SettingsCheck.Refused cause line) text = []
+
+-- it prints nothing
+unfoldable pub saysNothing : List ℕ → List ℕ
+saysNothing input = ifAccepted (readSheet (readPart input) .check) (transcript ourEquipment input)

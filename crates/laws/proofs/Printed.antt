@@ -15,6 +15,7 @@ use Rattle.rules.specs.Text.{bytes}
 use Rattle.rules.specs.Forms.{sampleForm, numbersOf}
 use Rattle.rules.specs.Settings.{settingsAccepted}
 use Rattle.rules.specs.Samples.{Slice, Equipment, permitted, sampleCheck, sampleAccepted}
+use Rattle.rules.specs.Regions.{regionOf}
 use Rattle.rules.specs.Refusals.{refusalNumber, sampleNumber, answerNumber}
 use Rattle.rules.specs.Reports.{reportOf}
 use Rattle.rules.specs.Records.{fresh, turnedAway, stepOf}
@@ -26,10 +27,12 @@ use Rattle.rules.specs.declared.Board.{Board}
 use Rattle.rules.specs.declared.Report.{Report}
 use Rattle.rules.specs.declared.Refusal.{Refusal}
 use Rattle.rules.specs.declared.Refusal.the-variants.{Sample}
+use Rattle.rules.specs.declared.Region.the-variants.{Continuous}
 use Rattle.rules.specs.declared.SampleCheck.{SampleCheck}
 use Rattle.rules.specs.declared.Answer.{Answer}
 use Rattle.rules.specs.declared.Stepped.{Stepped}
 use Rattle.claims.specs.Held.{RanOut, WaitFull}
+use Rattle.claims.specs.Sound.{Sound}
 use Rattle.claims.specs.FirstCause.{first, sampleCauses}
 use Rattle.claims.specs.TripAndReturn.{recordOf}
 use Rattle.claims.specs.Printed.{asSlice, sampleOn, causesOn, withSample, samplesAfter, samplesOn, lineAt, SampleAt, CauseAt, untilSpace, afterSpace, sameText, isReport}
@@ -37,7 +40,7 @@ use Rattle.claims.specs.Printed.{statusWord, shownAfter, trippedWord, lastShown
 use Rattle.basics.proofs.Refusals.{number-bounds}
 use Rattle.laws.proofs.FirstCause.{accepted-none, sample-number, step-number}
 use Rattle.laws.proofs.Trace.{next-is}
-use Rattle.laws.proofs.Trip.{trip-law, return-law}
+use Rattle.laws.proofs.Trip.{trip-law, return-law, return-continuous}
 use Rattle.laws.proofs.Demand2.{accepted-step, refused-step, answer-is, tripped-of, tripped-status}
 use Rattle.laws.proofs.Demand3.{status-top}
 
@@ -265,17 +268,23 @@ module _ (e : Equipment) (st : Settings) (ok : settingsAccepted st ≡ true) whe
           (λ d. word-now k x a ∙ tripped-word (x ∷ before k) (law .1 d)),
         )
 
+    off-before : (k : ℕ) → lastShown (take k texts) ≡ trippedWord → serving e st (before k) ≡ false
+    off-before k off = word-tripped (before k) (sym (last-is k) ∙ off)
+
+    on-now : (k : ℕ) (x : Slice) → SampleAt ls k x → ¬ (statusWord (getD texts k []) ≡ trippedWord) → serving e st (x ∷ before k) ≡ true
+    on-now k x a other = or-true (serving e st (x ∷ before k)) (λ p. other (word-now k x a ∙ tripped-word (x ∷ before k) p))
+
     returns : (k : ℕ) (x : Slice) → SampleAt ls k x → lastShown (take k texts) ≡ trippedWord
         → (¬ (statusWord (getD texts k []) ≡ trippedWord)) ↔ WaitFull e st (x ∷ before k)
     returns k x a off =
-        let law = return-law e st (before k) x (word-tripped (before k) (sym (last-is k) ∙ off)) in (
-          (λ other. law .0 (or-true (serving e st (x ∷ before k)) (λ p. other (word-now k x a ∙ tripped-word (x ∷ before k) p)))),
+        let law = return-law e st (before k) x (off-before k off) in (
+          (λ other. law .0 (on-now k x a other)),
           (λ full w. false≢true (sym (word-tripped (x ∷ before k) (sym (word-now k x a) ∙ w)) ∙ law .1 full)),
         )
 
-    pub lines-printed : Printed e st ls (answersFrom e st fresh 14 ls)
+    pub lines-printed : Sound e → Printed e st ls (answersFrom e st fresh 14 ls)
     unfolding recordOf
-    lines-printed =
+    lines-printed sound =
         record {
           answers = texts;
           whole = whole-is [] 14 ls;
@@ -285,6 +294,7 @@ module _ (e : Equipment) (st : Settings) (ok : settingsAccepted st ≡ true) whe
           refuses = refused;
           trips = trips;
           returns = returns;
+          returns-continuous = λ k x a off other. return-continuous e st sound ok (before k) x (off-before k off) (on-now k x a other);
         }
 
 -- ---- there is no choice
