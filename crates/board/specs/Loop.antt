@@ -25,7 +25,7 @@ use Rattle.board.specs.declared.Ran.{Ran}
 
 -- ---- reading
 
--- before the first read, 10^12 bytes may be read
+-- spec 10.9: before the first read, 10^12 bytes may be read
 abbrev pub unread : Input
 unread = record { budget = inputEnd; asked = 0; answer = pos 0; bytes = 0 }
 
@@ -40,7 +40,7 @@ readAfter i room a =
       bytes = clamped a (min (i .budget) room);
     }
 
--- a negative answer is a failure; any other that brings no bytes, where some were asked for, is the input's end
+-- spec 10.12: a negative answer is a failure; any other that brings no bytes, where some were asked for, is the input's end
 abbrev pub readFailed : Input → Bool
 readFailed i = ltZ (i .answer) (pos 0)
 
@@ -50,12 +50,13 @@ readFailed i = ltZ (i .answer) (pos 0)
 abbrev pub unsaid : Handed
 unsaid = record { bytes = 0; put = true }
 
--- a session stands at this state with these bytes left; all that it has said is handed over, and no write failed
+-- a session stands at this state with these bytes left; all that it has said is handed over, by the count, and no write failed
 pub record Talks (e : Equipment) (ended : Bool) (q : State) (left : List ℕ) (handed : Handed) : Type 0 where
   pub stands : Standing e ended q left (handed .bytes)
   pub well : handed .put ≡ true
 
--- when a read is made: such a session, to which as many bytes came as were read and with no whole line left; and no read failed
+-- when a read is made: a session talks so with the bytes that wait in the buffer; as many bytes came to it as were read; no whole line waits
+-- for its answer (spec 10.12); and no read failed
 pub record Waits (e : Equipment) (q : State) (left : List ℕ) (handed : Handed) (before : Input) : Type 0 where
   pub talks : Talks e false q left handed
   pub read : length (talks .stands .input) + before .budget ≡ inputEnd
@@ -66,13 +67,13 @@ pub record Waits (e : Equipment) (q : State) (left : List ℕ) (handed : Handed)
 abbrev pub outRoom : ℕ
 outRoom = 131072
 
--- when a text is handed to the writing: such a session, and the text is what a call of `respond` writes for its state and block
+-- when a text is handed to the writing: a session talks so at this state and block, and the text is what a call of `respond` writes for them
 pub record Due (e : Equipment) (q : State) (block : List ℕ) (before : Handed) (text : List ℕ) : Type 0 where
   pub last : Bool
   pub talks : Talks e last q block before
   pub is : text ≡ respondOf e q block last outRoom .text
 
--- one call of `respond`, and what it wrote handed over
+-- one call of `respond`, and what it wrote handed over; `few` keeps the count below 2^64
 pub record Says (e : Equipment) (q : State) (block : List ℕ) (last : Bool) (before : Handed) (r : Spoken) : Type 0 where
   pub state : r .state ≡ respondOf e q block last outRoom .state
   pub taken : r .taken ≡ respondOf e q block last outRoom .state .taken - q .taken
