@@ -1,6 +1,6 @@
 -- The statements of specs/Demands.antt hold.
 -- Assumes nothing.
-use mathlib.Core.Path.{subst⁻¹}
+use mathlib.Core.Path.{sym, subst⁻¹, _∙_}
 use native.Mathlib.Omega.{arith}
 use Rattle.rules.specs.Regions.{ourEquipment}
 use Rattle.rules.specs.Sheets.{readSheet}
@@ -25,12 +25,14 @@ use Rattle.formats.proofs.Sheets.{sheet-read-back, sheet-written-out, one-readi
 use Rattle.formats.proofs.Forms.{forms-read}
 use Rattle.formats.proofs.SampleLines.{samples-answered, one-answer}
 use Rattle.formats.proofs.Samples.{sample-reads-back, sample-written-out}
+use Rattle.program.specs.Sessions.{joined}
 use Rattle.program.proofs.Sessions.{transcript-law}
+use Rattle.program.proofs.Standing.{standing-law}
 use Rattle.demands.specs.Demands.{ours, OurRefusals, OurSheetRefusals, OurTranscript, OurTripAndReturn, OurTwoHistories, SheetsReadBack, SheetsWrittenOut}
 use Rattle.demands.specs.Demands.{OneSheetReading, DefaultSheetWritten, UnderAcceptedTexts, LinesOfForms, SampleLinesAnswered, OneSampleAnswer}
 use Rattle.demands.specs.Demands.{AcceptedSamplesWritable, SampleLinesReadBack, SampleLinesWrittenOut, EveryCounter, SensingRule, EdgeValues}
 use Rattle.demands.specs.Demands.{ShamsCaught, ShamImagesCaught, ShamReadingsCaught, AnyTripAndReturn, AnyTwoHistories, OurEquipmentSound}
-use Rattle.demands.specs.Demands.{PowerLaws}
+use Rattle.demands.specs.Demands.{PowerLaws, OurSessions, SessionsPrinted}
 use Rattle.demands.specs.Demands.{AlikeEquipmentStepsAlike, OurPrinted, OnePrinting, SamplesOnLines, StatusWordsTell, BitsUnpacked}
 use Rattle.demands.specs.Demands.{ReportsAreItems, OurTwoHistoriesReported}
 use Rattle.demands.specs.Demands.{OurLentRecords, LentValues, RightReportsTrip, ShamRefusalsCaught, ShamReportsCaught, ShamPrintingsCaught}
@@ -64,6 +66,9 @@ ourSheetRefusals = sheets-refused-rightly
 
 pub ourTranscript : OurTranscript
 ourTranscript = transcript-law ourEquipment
+
+pub ourSessions : OurSessions
+ourSessions = standing-law ourEquipment
 
 pub ourTripAndReturn : OurTripAndReturn
 ourTripAndReturn = demand2 ourEquipment our-equipment-sound
@@ -111,6 +116,9 @@ ourPrinted = prints-by-history ourEquipment our-equipment-sound
 
 pub onePrinting : OnePrinting
 onePrinting = one-printing ourEquipment our-equipment-sound
+
+pub sessionsPrinted : SessionsPrinted
+sessionsPrinted print right cs sizes done = ourTranscript .done cs sizes done ∙ sym (onePrinting print right (joined cs))
 
 pub samplesOnLines : SamplesOnLines
 samplesOnLines = samples-on-lines

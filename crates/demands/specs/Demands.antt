@@ -42,7 +42,9 @@ use Rattle.formats.specs.Sheets.{writtenSheet, ReadsSheetsBack, AcceptsSheetsOn
 use Rattle.formats.specs.Marks.{ReadsForms}
 use Rattle.formats.specs.Samples.{writable, writtenSample, Answering, AnswersSamples, ReadsBack, BeginsWithSample}
 use Rattle.roots.specs.Root.{IsRoot}
-use Rattle.program.specs.Sessions.{TranscriptLaw}
+use Rattle.program.specs.States.{isDone}
+use Rattle.program.specs.Sessions.{Delivery, opened, during, ending, joined, TranscriptLaw}
+use Rattle.program.specs.Standing.{StandingLaw}
 use Rattle.claims.specs.Calls.{Program, ruledBy, Operations, operationsBy}
 use Rattle.claims.specs.Sound.{Sound}
 use Rattle.claims.specs.Alike.{Alike}
@@ -54,7 +56,7 @@ use Rattle.claims.specs.TripAndReturn.{Demand2}
 use Rattle.claims.specs.TwoHistories.{TwoHistoriesBy, Demand3By, Demand3}
 use Rattle.claims.specs.Bits.{UnpacksBits}
 use Rattle.claims.specs.LentRecords.{ReadsRecords}
-use Rattle.claims.specs.Printed.{sampleOn, statusWord, Prints, PrintsByHistory}
+use Rattle.claims.specs.Printed.{sampleOn, statusWord, PrintsByHistory}
 use Rattle.replay.specs.Replays.{groups, replayed, replayedInto}
 use Rattle.replay.specs.Demanded.{GroupsBySeven, ReplaysRightly}
 use Rattle.saltdelta.specs.Refuses.{ExportedRefuse}
@@ -106,6 +108,13 @@ OurSheetRefusals = SheetsRefusedRightly readSheet handedBack
 -- bytes left, and one, finish.
 abbrev pub OurTranscript : Type 0
 OurTranscript = TranscriptLaw ourEquipment
+
+-- Demand 1, for the program's loop: `StandingLaw` in program/specs/Standing.antt. The contract of `board::run` (`Runs` in board/specs/Loop.antt) has a session of
+-- `respond` that stands where the run ended, to which as many bytes came as were read, and which has said as many as were handed to the
+-- writing. Of every session that stands: as many bytes came as it has taken and are left; where all is done, as at the end of every run in which no
+-- read and no write failed, it has said the transcript of what came; in any case it has said a beginning of the transcript.
+abbrev pub OurSessions : Type 0
+OurSessions = StandingLaw ourEquipment
 
 -- Demand 2: `TripAndReturn` in claims/specs/TripAndReturn.antt. Under every accepted sheet, for every list of step calls, refused ones
 -- included, on one record from a fresh board: the last report is the one that the accepted samples alone give, in their order, and so
@@ -198,6 +207,13 @@ OurPrinted = PrintsByHistory ourEquipment (transcript ourEquipment)
 abbrev pub OnePrinting : Type 0
 OnePrinting =
     (print : List ℕ → List ℕ) → PrintsByHistory ourEquipment print → (input : List ℕ) → print input ≡ transcript ourEquipment input
+
+-- However an input is cut, what a session of `respond` has said once all is done is what every program with this property prints for the input.
+abbrev pub SessionsPrinted : Type 0
+SessionsPrinted =
+    (print : List ℕ → List ℕ) → PrintsByHistory ourEquipment print
+    → (cs : List Delivery) (sizes : List ℕ) → isDone (ending ourEquipment (during ourEquipment opened cs) sizes .state) ≡ true
+    → ending ourEquipment (during ourEquipment opened cs) sizes .text ≡ print (joined cs)
 
 -- A line's sample there (`sampleOn`) is x exactly when the line is x written out and ended, x having seven numbers of at most six digits.
 abbrev pub SamplesOnLines : Type 0
