@@ -3,13 +3,14 @@
 -- `ours` is what the code's contracts promise, and a demand holds of the code through them. `fresh` is the result of `service::fresh`,
 -- `stepOf ourEquipment` that of `service::step::step`, `saveCheck` and `savedInto` those of `image::save`, `settingsCheck` that of `settings::check`, `sensed` that of `sensing::sense`, `readSheet` and `handedBack`
 -- those of `reader::read_sheet` (and of `sheet::read` and `sheet::part`), `respondOf ourEquipment` that of `respond::respond`. Each of those
--- contracts is proved in its crate for every record, settings, slice, code, buffer, state and text there can be.
+-- contracts is proved in its crate for every record, settings, slice, code, buffer, state and text there can be; `CodeContracts`, at the
+-- end, states that they say these words.
 -- The exported functions, for C and Rust, promise the same words: `saltdelta_fresh` gives `fresh`; the number, record and report of
 -- `saltdelta_step` are those of `stepOf ourEquipment`, the answer and settings of `saltdelta_read_sheet` those of `readSheet` and `handedBack`
 -- (saltdelta/specs/Answers.antt); `saltdelta_save` has `saveCheck` and `savedInto`. A refused one leaves record, report, settings and buffer as they
--- were lent: saltdelta/proofs/Refusals.antt.
+-- were lent: `ExportedRefusals`.
 -- `ourEquipment` is the sensing rule of spec 2.2 and the voltage regions of spec 6.7. The words of the statements are defined in the crates
--- `claims`, `rules`, `roots`, `formats` and `program`.
+-- `claims`, `rules`, `roots`, `formats`, `program`, `replay` and `saltdelta`.
 -- Assumes nothing.
 use mathlib.Core.Path.{_≡_}
 use mathlib.Core.Bool.{true}

@@ -39,7 +39,8 @@ by-seven =
       whole = λ x s seven.
           groups-apart (x ++ s) (omega (arith, length-append x s, seven)) x s (take-at x s groupLength seven) (drop-at x s groupLength seven);
       short = λ s some few.
-          groups-apart s some s [] (take-all groupLength s (omega arith)) (drop-of-length-le s {i = groupLength} (omega arith)) ∙ ap (λ (gs : List Slice). s ∷ gs) groups-none;
+          groups-apart s some s [] (take-all groupLength s (omega arith)) (drop-of-length-le s {i = groupLength} (omega arith))
+          ∙ ap (λ (gs : List Slice). s ∷ gs) groups-none;
     }
 
 -- ---- calls

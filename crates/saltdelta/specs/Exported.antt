@@ -21,18 +21,19 @@ use Rattle.saltdelta.specs.Answers.{recordAfter, reportAfter, stepNumber
 abbrev pub causeOf : ℕ → Refusal
 causeOf n = getD (Form ∷ Range ∷ Rise ∷ Code ∷ Frequency ∷ Permission ∷ Power ∷ Sample ∷ Buffer ∷ []) (n - 1) Form
 
--- what a number and a report answer: 0 is the report, any other number its cause
+-- what a number and a report say: 0 the report, any other number its cause
 abbrev pub answerBy : ℕ → Report → Answer
 answerBy n report = unlessRefused n (Answer.Reported report) (Answer.Refused (causeOf n))
 
--- `saltdelta_fresh` and `saltdelta_step`, where a report is lent that stands as it was
+-- `saltdelta_step`, with `before` in the lent report: the record after it, and what number and report say
 abbrev pub exportedStep : Report → Board → Settings → Slice → Stepped
 exportedStep before b st x = record { board = recordAfter b st x; answer = answerBy (stepNumber b st x) (reportAfter before b st x) }
 
+-- a board that begins with `saltdelta_fresh` and is stepped by it
 abbrev pub exportedBoard : Report → Program
 exportedBoard before = record { start = fresh; step = exportedStep before }
 
--- `saltdelta_replay`, where such a report is lent
+-- `saltdelta_replay`, with `before` in the lent report
 abbrev pub exportedReplay : Report → Settings → List ℕ → List ℕ → Replayed
 exportedReplay before st samples buffer =
     record {

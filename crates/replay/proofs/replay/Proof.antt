@@ -51,10 +51,15 @@ same-length c = search needs
 
 returns-3 : tie.Need-returns-3
 returns-3 c =
-    let a = c .before .before .before .before .before .before .before .before .before .before .before .before .before .args in
-    let told = sym (c .before .before .before .before .before .before .before .before .before .before .check .ensures .0) ∙ c .before .before .before .before .before .before .before .before .enum-told .given .1 in
-    let r = c .before .before .before .before .before .before .step-all in
-    let is = through (a .settings) (now (a .samples)) (now (a .buffer)) told (omega (arith, c .before .before .before .before .before .before .before .if1 .left)) (r .result) (r .ensures) _ (c .before .before .save .ensures .0 .1) in
+    let saved = c .before .before in
+    let ran = saved .before .before .before .before in
+    let long = ran .before in
+    let known = long .before in
+    let checked = known .before .before in
+    let a = checked .before .before .before .args in
+    let told = sym (checked .check .ensures .0) ∙ known .enum-told .given .1 in
+    let is = through (a .settings) (now (a .samples)) (now (a .buffer)) told (omega (arith, long .if1 .left)) (ran .step-all .result)
+    (ran .step-all .ensures) _ (saved .save .ensures .0 .1) in
     (is, numbered (a .settings) (now (a .samples)) (now (a .buffer)) _ (is .0))
 
 pub replay-spec : {M : Type 1} → statement M

@@ -1,11 +1,12 @@
 -- `replay::step_all` meets its contract. The loop's invariant: the samples that are left end as all do from a fresh board (`Stepping.antt`).
 -- Assumes nothing.
-use mathlib.Core.Path.{_∙_}
+use mathlib.Core.Path.{_≡_, _∙_}
 use Prim.Native.Nat.{_-_}
 use native.Mathlib.Omega.{arith}
 use denote.Ref.{now}
 use lib.ListN.{length, take, drop}
 use Rattle.rules.specs.Regions.{ourEquipment, equippedWith}
+use Rattle.rules.specs.Records.{stepOf}
 use Rattle.laws.proofs.Alike.{step-alike}
 use Rattle.service.proofs.OurTable.{table-alike}
 use Rattle.replay.proofs.Stepping.{Going, beginning, reported, refused, ended}
@@ -61,40 +62,50 @@ add-accepted c =
     let w = c .before .before .before .before .before .before .before .before .before .loop in
     record { fits = omega (arith, w .inv .few, w .inv .inside) }
 
+-- a turn's step is ours, with our table lent
+is-step : (c : tie.After-step-accepted Inv-loop μ-loop)
+    → let w = c .before .before .before .before .before .loop in
+    let a = c .before .before .before .before .before .before .before .before .before .before .args in
+    let end = c .before .before .before .group-end .result in
+    c .step-accepted .result ≡ stepOf ourEquipment (w .board) (a .settings) (take (end - w .at) (drop (w .at) (now (a .samples))))
+is-step c =
+    let w = c .before .before .before .before .before .loop in
+    let t = c .before .before .before .before .before .before .before .before .table in
+    let a = c .before .before .before .before .before .before .before .before .before .before .args in
+    c .step-accepted .ensures ∙ step-alike (equippedWith (t .result)) ourEquipment (table-alike (t .result) (t .ensures)) (w .board) (a .settings) _
+
 loop-less : tie.Need-loop-less Inv-loop μ-loop
-loop-less c = omega (arith, c .before .before .before .before .before .before .before .group-end .ensures, c .before .before .before .before .before .before .before .before .loop-test .taken)
+loop-less c =
+    let step = c .before .before .before .before in
+    omega (arith, step .before .before .before .group-end .ensures, step .before .before .before .before .loop-test .taken)
 
 loop-again : tie.Need-loop-again Inv-loop μ-loop
 loop-again c =
-    let w = c .before .before .before .before .before .before .before .before .before .loop in
-    let a = c .before .before .before .before .before .before .before .before .before .before .before .before .before .before .args in
-    let s = now (a .samples) in
-    let t = c .before .before .before .before .before .before .before .before .before .before .before .before .table in
-    let end = c .before .before .before .before .before .before .before .group-end in
-    let r = c .before .before .before .before .step-accepted in
-    let same = table-alike (t .result) (t .ensures) in
-    let is = r .ensures ∙ step-alike (equippedWith (t .result)) ourEquipment same (w .board) (a .settings) (take (end .result - w .at) (drop (w .at) s)) in
-    reported (a .settings) s (w .at) (w .board) (w .report) (w .accepted) (w .inv) (c .before .before .before .before .before .before .before .before .loop-test .taken) (end .result) (end .ensures) (r .result) is
-    _ (c .before .answer .given .1)
+    let step = c .before .before .before .before in
+    let end = step .before .before .before .group-end in
+    let turn = step .before .before .before .before in
+    let w = turn .before .loop in
+    let a = turn .before .before .before .before .before .before .args in
+    reported (a .settings) (now (a .samples)) (w .at) (w .board) (w .report) (w .accepted) (w .inv) (turn .loop-test .taken) (end .result) (end .ensures)
+    (step .step-accepted .result) (is-step step) _ (c .before .answer .given .1)
 
 enum-told : tie.Need-enum-told Inv-loop μ-loop
 enum-told c = search needs
 
 loop-less-2 : tie.Need-loop-less-2 Inv-loop μ-loop
-loop-less-2 c = omega (arith, c .before .before .before .before .before .before .group-end .ensures, c .before .before .before .before .before .before .before .loop-test .taken)
+loop-less-2 c =
+    let step = c .before .before .before in
+    omega (arith, step .before .before .before .group-end .ensures, step .before .before .before .before .loop-test .taken)
 
 loop-again-2 : tie.Need-loop-again-2 Inv-loop μ-loop
 loop-again-2 c =
-    let w = c .before .before .before .before .before .before .before .before .loop in
-    let a = c .before .before .before .before .before .before .before .before .before .before .before .before .before .args in
-    let s = now (a .samples) in
-    let t = c .before .before .before .before .before .before .before .before .before .before .before .table in
-    let end = c .before .before .before .before .before .before .group-end in
-    let r = c .before .before .before .step-accepted in
-    let same = table-alike (t .result) (t .ensures) in
-    let is = r .ensures ∙ step-alike (equippedWith (t .result)) ourEquipment same (w .board) (a .settings) (take (end .result - w .at) (drop (w .at) s)) in
-    refused (a .settings) s (w .at) (w .board) (w .report) (w .accepted) (w .inv) (c .before .before .before .before .before .before .before .loop-test .taken) (end .result) (end .ensures) (r .result) is
-    _ (c .enum-told .given .1)
+    let step = c .before .before .before in
+    let end = step .before .before .before .group-end in
+    let turn = step .before .before .before .before in
+    let w = turn .before .loop in
+    let a = turn .before .before .before .before .before .before .args in
+    refused (a .settings) (now (a .samples)) (w .at) (w .board) (w .report) (w .accepted) (w .inv) (turn .loop-test .taken) (end .result) (end .ensures)
+    (step .step-accepted .result) (is-step step) _ (c .enum-told .given .1)
 
 returns : tie.Need-returns Inv-loop μ-loop
 returns c =
