@@ -1,7 +1,12 @@
 // Executed cases: spec 3.7, 3.9. The host's sheet reader, whose result holds a part of the caller's bytes.
+ghost use mathlib.Core.Path.{_≡_};
+ghost use Rattle.rules.specs.Sheets.{readSheet};
 ghost use Rattle.sheet.specs.Parts.{IsPart};
+use crate::show;
 use libc::STDOUT_FILENO;
 use reader::read_sheet;
+use rules::SettingsCheck;
+use rules::refusal_number;
 
 // The part that reading hands back: from the caller's bytes to the caller's bytes.
 fn line_of(s: &[u8]) -> &[u8]
@@ -11,12 +16,35 @@ fn line_of(s: &[u8]) -> &[u8]
     read.line
 }
 
+// What reading finds.
+fn check_of(s: &[u8]) -> SettingsCheck
+    ensures { λ r. ⌜ r ≡ readSheet (now (s .entry)) .check ⌝ }
+{
+    let read = read_sheet(s);
+    read.check
+}
+
+// The number and the line of a check, both 0 where it is accepted.
+fn show_check(check: SettingsCheck) {
+    match check {
+        SettingsCheck::Accepted => {
+            show(b"  number: ", 0);
+            show(b"  line: ", 0);
+        }
+        SettingsCheck::Refused(cause, line) => {
+            show(b"  number: ", refusal_number(cause) as u64);
+            show(b"  line: ", line as u64);
+        }
+    }
+}
+
 // A text, and the part of it that reading hands back.
 fn shows(label: &[u8], s: &[u8]) {
     let line = line_of(s);
     io::write_all(STDOUT_FILENO, label);
     io::write_all(STDOUT_FILENO, line);
     io::write_all(STDOUT_FILENO, b"\n");
+    show_check(check_of(s));
 }
 
 pub fn sheets() {
