@@ -1,6 +1,6 @@
 -- The loop of `answer`: so many calls of `respond`, and what they wrote handed over.
 -- Assumes nothing.
-use mathlib.Core.Path.{_≡_, refl, sym, ap, _∙_}
+use mathlib.Core.Path.{_≡_, refl, sym, ap, _∙_, subst}
 use mathlib.Core.Bool.{Bool, true, false, not, _&&_, false≢true}
 use mathlib.Core.List.{List, [], _++_, append-nil}
 use Prim.Native.Nat.{ℕ, suc, _+_, _*_, _-_, _≤_}
@@ -23,7 +23,8 @@ use Rattle.program.proofs.Responding.{nothing-left}
 use Rattle.program.proofs.Standing.{reached-fit, standing-called}
 use Rattle.respond.specs.Answering.{Responds}
 use Rattle.respond.specs.declared.Responded.{Responded}
-use Rattle.board.specs.Loop.{Talks, Due, Says, outRoom, Answers}
+use Rattle.board.specs.Loop.{Tells, Talks, Due, Says, outRoom, Answers}
+use Rattle.board.specs.declared.stdio.Input.{Input}
 use Rattle.board.specs.declared.stdio.Handed.{Handed}
 use Rattle.board.specs.declared.Spoken.{Spoken}
 use Rattle.board.specs.declared.Answered.{Answered}
@@ -59,9 +60,15 @@ says e q block last before d d′ n r c inside most h adds =
     }
 
 pub due : (e : Equipment) (q : State) (block : List ℕ) (last : Bool) (before : Handed) (d d′ : List ℕ) → length d ≡ outRoom
-    → (r : Responded) → Responds e q block last d d′ r → Talks e last q block before → Due e q block before (take (r .written - 0) d′)
-due e q block last before d d′ n r c talks =
-    record { last = last; talks = talks; is = front-is (c .written) ∙ ap (λ (k : ℕ). respondOf e q block last k .text) n }
+    → (r : Responded) → Responds e q block last d d′ r → Talks e last q block before → (input : Input) → Tells input last
+    → Due e q block input before (take (r .written - 0) d′)
+due e q block last before d d′ n r c talks input told =
+    record {
+      well = told .well;
+      talks = subst (λ (b : Bool). Talks e b q block before) (told .is) talks;
+      is = front-is (c .written) ∙ ap (λ (k : ℕ). respondOf e q block last k .text) n
+          ∙ ap (λ (b : Bool). respondOf e q block b outRoom .text) (told .is);
+    }
 
 -- ---- the loop
 

@@ -7,6 +7,7 @@ use mathlib.Core.Bool.{Bool, true, false}
 use mathlib.Core.List.{List, []}
 use Prim.Native.Nat.{ℕ, _+_, _*_, _-_, _≤_, min}
 use lib.IntN.{ℤ, pos}
+use lib.Dec.{eqb}
 use lib.ListN.{length, take, drop}
 use lib.Signed.{ltZ}
 use Rattle.io.specs.Counts.{clamped}
@@ -24,6 +25,10 @@ use Rattle.board.specs.declared.Answered.{Answered}
 use Rattle.board.specs.declared.Ran.{Ran}
 
 -- ---- reading
+
+-- spec 10.12: the size of the buffer that is read to
+abbrev pub blockRoom : ℕ
+blockRoom = 65536
 
 -- spec 10.9: before the first read, 10^12 bytes may be read
 abbrev pub unread : Input
@@ -43,6 +48,15 @@ readAfter i room a =
 -- spec 10.12: a negative answer is a failure; any other that brings no bytes, where some were asked for, is the input's end
 abbrev pub readFailed : Input → Bool
 readFailed i = ltZ (i .answer) (pos 0)
+
+-- a read that went well and brought none: the input has ended, or all 10^12 bytes have come
+abbrev pub endRead : Input → Bool
+endRead i = eqb (i .bytes) 0
+
+-- `respond` may be told this of the input's end: the last read went well, and it is the end where that brought none
+pub record Tells (input : Input) (last : Bool) : Type 0 where
+  pub well : readFailed input ≡ false
+  pub is : last ≡ endRead input
 
 -- ---- writing
 
@@ -67,11 +81,12 @@ pub record Waits (e : Equipment) (q : State) (left : List ℕ) (handed : Handed)
 abbrev pub outRoom : ℕ
 outRoom = 131072
 
--- when a text is handed to the writing: a session talks so at this state and block, and the text is what a call of `respond` writes for them
-pub record Due (e : Equipment) (q : State) (block : List ℕ) (before : Handed) (text : List ℕ) : Type 0 where
-  pub last : Bool
-  pub talks : Talks e last q block before
-  pub is : text ≡ respondOf e q block last outRoom .text
+-- when a text is handed to the writing: the last read went well, a session talks so at this state and block, and the text is what a call of
+-- `respond` writes for them, told of the input's end where that read brought none
+pub record Due (e : Equipment) (q : State) (block : List ℕ) (input : Input) (before : Handed) (text : List ℕ) : Type 0 where
+  pub well : readFailed input ≡ false
+  pub talks : Talks e (endRead input) q block before
+  pub is : text ≡ respondOf e q block (endRead input) outRoom .text
 
 -- one call of `respond`, and what it wrote handed over; `few` keeps the count below 2^64
 pub record Says (e : Equipment) (q : State) (block : List ℕ) (last : Bool) (before : Handed) (r : Spoken) : Type 0 where

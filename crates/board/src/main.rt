@@ -5,8 +5,7 @@ ghost use mathlib.Core.Bool.{true, _&&_};
 ghost use Prim.Native.Nat.{_+_, _*_, _-_, _≤_, _<_};
 ghost use lib.ListN.{length, take, drop};
 ghost use Rattle.rules.specs.Regions.{ourEquipment};
-ghost use Rattle.program.specs.Responses.{longest};
-ghost use Rattle.board.specs.Loop.{outRoom, Talks, Says, Answers, Runs};
+ghost use Rattle.board.specs.Loop.{blockRoom, outRoom, Talks, Says, Answers, Runs, Tells};
 
 mod stdio;
 
@@ -32,15 +31,17 @@ struct Spoken {
     done: bool,
 }
 
-// One call of `respond`, and what it wrote handed over. The count of bytes handed over stays below 2^64.
-fn say(q: State, block: &[u8], last: bool, out: &mut [u8], before: Handed) -> Spoken
+// One call of `respond`, and what it wrote handed over. The count of bytes handed over stays below 2^64. How far the reading is is there for
+// the contract alone.
+fn say(q: State, block: &[u8], last: bool, input: Input, out: &mut [u8], before: Handed) -> Spoken
     requires { ⌜ (length (now out) ≡ outRoom) × (Talks ourEquipment last q (now block) before) ⌝ }
     requires { ⌜ before .bytes + outRoom < 18446744073709551616 ⌝ }
+    requires { ⌜ Tells input last ⌝ }
     ensures { λ r. ⌜ Says ourEquipment q (now (block .entry)) last before r ⌝ }
 {
     let r = respond(q, block, last, out);
     let n = r.written;
-    let handed = hand_over(&out[0..n], q, block, before);
+    let handed = hand_over(&out[0..n], q, block, input, before);
     let next = r.state;
     Spoken {
         state: next,
@@ -60,9 +61,17 @@ struct Answered {
 
 // The answers to a block's lines, handed over each time that the buffer is full or the block is handled. A write that fails ends the
 // program.
-fn answer(q: State, block: &[u8], last: bool, out: &mut [u8], before: Handed) -> Answered
+fn answer(
+    q: State,
+    block: &[u8],
+    last: bool,
+    input: Input,
+    out: &mut [u8],
+    before: Handed,
+) -> Answered
     requires { ⌜ (length (now out) ≡ outRoom) × (Talks ourEquipment last q (now block) before) ⌝ }
     requires { ⌜ before .bytes + outRoom * (length (now block) + 1) < 18446744073709551616 ⌝ }
+    requires { ⌜ Tells input last ⌝ }
     ensures { λ r. ⌜ Answers ourEquipment q (now (block .entry)) last before r ⌝ }
 {
     let end = block.len();
@@ -72,7 +81,7 @@ fn answer(q: State, block: &[u8], last: bool, out: &mut [u8], before: Handed) ->
     let mut going = true;
     let mut more = true;
     while more {
-        let r = say(state, &block[at..end], last, out, handed);
+        let r = say(state, &block[at..end], last, input, out, handed);
         let taken = r.taken;
         state = r.state;
         handed = r.handed;
@@ -113,7 +122,7 @@ struct Ran {
 // Blocks of input until its end, or until all is done: no more than 10^12 bytes are read. No more than 128 bytes wait for their line
 // feed, so there is always room to read to.
 fn run(buf: &mut [u8], out: &mut [u8]) -> Ran
-    requires { ⌜ (longest < length (now buf)) × (length (now out) ≡ outRoom) ⌝ }
+    requires { ⌜ (length (now buf) ≡ blockRoom) × (length (now out) ≡ outRoom) ⌝ }
     ensures { λ r. ⌜ Runs ourEquipment (now (buf .exit)) r ⌝ }
 {
     let mut state = start();
@@ -133,7 +142,7 @@ fn run(buf: &mut [u8], out: &mut [u8]) -> Ran
         }
         let bytes = input.bytes();
         let end = have + bytes;
-        let a = answer(state, &buf[0..end], bytes == 0, out, handed);
+        let a = answer(state, &buf[0..end], bytes == 0, input, out, handed);
         state = a.state;
         have = to_front(buf, a.at, end);
         handed = a.handed;

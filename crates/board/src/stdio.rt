@@ -93,10 +93,10 @@ pub fn read_to(buf: &mut [u8], have: usize, q: State, handed: Handed, before: In
     }
 }
 
-// A text goes to the writing: what a call of `respond` writes for this state and block, at which a session stands that has said as many
-// bytes as were handed over. State and block are there for the contract alone.
-pub fn hand_over(text: &[u8], q: State, block: &[u8], before: Handed) -> Handed
-    requires { ⌜ Due ourEquipment q (now block) before (now text) ⌝ }
+// A text goes to the writing: what a call of `respond` writes for this state and block, told of the input's end where the last read brought
+// none; a session stands there that has said as many bytes as were handed over. State, block and reading are there for the contract alone.
+pub fn hand_over(text: &[u8], q: State, block: &[u8], input: Input, before: Handed) -> Handed
+    requires { ⌜ Due ourEquipment q (now block) input before (now text) ⌝ }
     requires { ⌜ before .bytes + length (now text) < 18446744073709551616 ⌝ }
     ensures { λ r. ⌜ r .bytes ≡ before .bytes + length (now (text .entry)) ⌝ }
 {

@@ -10,10 +10,10 @@ use lib.ListN.{length, getD}
 use lib.Signed.{_≤ℤ_}
 use Rattle.rules.specs.declared.Point.{Point}
 
--- spec 7.4: beside these vars p fits the rating, and the next p does not
+-- spec 7.4: beside these vars p fits the rating, and nothing above p does
 pub record LargestBeside (vars : ℤ) (p : ℕ) : Type 0 where
   pub fits : p * p + natAbs vars * natAbs vars ≤ 100000000
-  pub next : 100000000 < (p + 1) * (p + 1) + natAbs vars * natAbs vars
+  pub above : (q : ℕ) → p < q → 100000000 < q * q + natAbs vars * natAbs vars
 
 -- point i of a curve, from 0
 abbrev pub pointAt : List Point → ℕ → Point

@@ -1,10 +1,15 @@
 -- The statements of specs/Demands.antt hold.
 -- Assumes nothing.
-use mathlib.Core.Path.{sym, subst⁻¹, _∙_}
+use mathlib.Core.Path.{_≡_, sym, subst⁻¹, _∙_}
+use mathlib.Core.Bool.{true}
 use native.Mathlib.Omega.{arith}
 use Rattle.rules.specs.Regions.{ourEquipment}
 use Rattle.rules.specs.Sheets.{readSheet}
 use Rattle.rules.specs.Curves.{curve}
+use Rattle.rules.specs.Settings.{settingsAccepted}
+use Rattle.rules.specs.declared.Settings.{Settings}
+use Rattle.rules.specs.declared.SettingsCheck.{SettingsCheck}
+use Rattle.saltdelta.specs.Answers.{settingsAfter}
 use Rattle.rules.specs.Images.{savedInto}
 use Rattle.roots.proofs.Voltages.{voltage-root}
 use Rattle.laws.proofs.FirstCause.{refuses-rightly}
@@ -42,7 +47,7 @@ use Rattle.replay.proofs.Groups.{by-seven}
 use Rattle.replay.proofs.Demanded.{replays-rightly}
 use Rattle.saltdelta.proofs.Refusals.{exported-refuse}
 use Rattle.saltdelta.proofs.Exported.{board-is, exported-replay}
-use Rattle.demands.specs.Demands.{ExportedRefusals, ExportedDemands, OurReplay, ExportedReplay, ReplayGroups}
+use Rattle.demands.specs.Demands.{ExportedRefusals, ExportedDemands, ExportedUnderTexts, OurReplay, ExportedReplay, ReplayGroups}
 use Rattle.demands.specs.Demands.{CodeContracts, CodeMeetsContracts}
 use Rattle.demands.proofs.Contracts.{contracts-say, code-meets}
 use Rattle.demands.proofs.Edges.{edges-hold}
@@ -156,6 +161,7 @@ powerLaws =
       leaves = nameplate-largest;
       follows = curve-follows;
       alone = one-curve;
+      rise = λ st ok. (rising-points (st .var) (var-rises st ok), rising-points (st .watt) (watt-rises st ok));
       var-curve = λ st ok. curve-follows (st .var) (rising-points (st .var) (var-rises st ok));
       watt-curve = λ st ok. curve-follows (st .watt) (rising-points (st .watt) (watt-rises st ok));
       watts = λ st ok v. pos-natAbs (curve (st .watt) v) (curve-nonNeg (st .watt) v (watt-not-negatives st ok));
@@ -221,6 +227,13 @@ exportedRefusals = exported-refuse
 pub exportedDemands : ExportedDemands
 exportedDemands before =
     (subst⁻¹ (Demand2 ourEquipment) (board-is before) ourTripAndReturn, subst⁻¹ (Demand3 ourEquipment) (board-is before) ourTwoHistories)
+
+pub exportedUnderTexts : ExportedUnderTexts
+exportedUnderTexts old before s zero =
+    let read : readSheet s .check ≡ SettingsCheck.Accepted = ourSheetRefusals .accepts s .1 (exported-refuse .sheet .accepted s .0 zero) in
+    let stored = exported-refuse .sheet .settings-stored s old zero in
+    let ok = subst⁻¹ (λ (st : Settings). settingsAccepted st ≡ true) stored (sheet-written-out s read .accepted) in
+    (ok, exportedDemands before .0 (settingsAfter old s) ok, exportedDemands before .1 (settingsAfter old s) ok)
 
 pub ourReplay : OurReplay
 ourReplay = replays-rightly our-equipment-sound

@@ -5,7 +5,7 @@ use mathlib.Core.Bool.{Bool, true, false, cond}
 use mathlib.Core.Logic.{inl, inr}
 use mathlib.Core.List.{List, [], _∷_}
 use Prim.Native.Nat.{ℕ, zero, suc, _+_, _-_, _*_, _/_, _≤_, _<_}
-use native.Mathlib.Nat.{mul-comm, zero-div, mul-div-le, lt-mul-div-succ, le-refl, le-of-suc-le-suc, not-suc-le-zero}
+use native.Mathlib.Nat.{mul-comm, mul-le-mul, zero-div, mul-div-le, lt-mul-div-succ, le-refl, le-of-suc-le-suc, not-suc-le-zero}
 use native.Mathlib.Decide.{decLe}
 use native.Mathlib.Omega.{arith}
 use borrow.Author.Tests.{le-leb, lt-leb, leb-true, ltb-true, ltb-false}
@@ -27,7 +27,12 @@ use Rattle.power.proofs.CurveLaws.{right-of}
 pub nameplate-largest : (vars : ℤ) → natAbs vars ≤ 10000 → LargestBeside vars (nameplate vars)
 nameplate-largest vars small =
     let root = nameplate-root vars small in
-    record { fits = omega (arith, root .low, used-small vars small); next = omega (arith, root .high, used-small vars small) }
+    record {
+      fits = omega (arith, root .low, used-small vars small);
+      above = λ q h.
+          let more : (nameplate vars + 1) * (nameplate vars + 1) ≤ q * q = mul-le-mul (omega (arith, h)) (omega (arith, h)) in
+          omega (arith, root .high, used-small vars small, more);
+    }
 
 pub T-true : (b : Bool) → T b → b ≡ true
 T-true true t = refl

@@ -62,7 +62,7 @@ abbrev pub unlessRefused {ℓ} : {A : Type ℓ} → ℕ → A → A → A
 unlessRefused zero given kept = given
 unlessRefused (suc n) given kept = kept
 
--- by value a refused replay has the fresh board's report, which nobody is given
+-- by value a refused replay has the fresh board's report beside its number (spec 5.6)
 abbrev pub turnedAway : Refusal → Replayed
 turnedAway cause = record { number = refusalNumber cause; accepted = 0; report = freshReport }
 

@@ -14,11 +14,11 @@ use Rattle.board.proofs.answer.Statement.{statement}
 use Rattle.board.proofs.answer.Tie as tie
 
 abbrev Inv-loop : tie.InvT-loop
-Inv-loop block last out₀ end state₀ at₀ handed₀ going₀ more₀ out state at handed going more =
+Inv-loop block last input out₀ end state₀ at₀ handed₀ going₀ more₀ out state at handed going more =
     (Going ourEquipment state₀ block last handed₀ state at handed going more) × (length out ≡ length out₀)
 
 abbrev μ-loop : tie.MeasureT-loop
-μ-loop block last out₀ end state₀ at₀ handed₀ going₀ more₀ out state at handed going more =
+μ-loop block last input out₀ end state₀ at₀ handed₀ going₀ more₀ out state at handed going more =
     cond more (length block - at + 1) 0
 
 loop-holds : tie.Need-loop-holds Inv-loop μ-loop
@@ -42,7 +42,7 @@ say-requires c κs =
     let on = c .before .before .loop-test .taken in
     let block = now (a .args .block) in
     let talks = talks-here ourEquipment (a .args .q) block (a .args .last) (a .args .before) (a .pre .0 .1) (w .inv .0) on _ (rest-is block (w .at)) in
-    ((w .inv .1 ∙ a .pre .0 .0, talks), omega (arith, a .pre .1, w .inv .0 .inside, w .inv .0 .fewer on))
+    ((w .inv .1 ∙ a .pre .0 .0, talks), (omega (arith, a .pre .1 .0, w .inv .0 .inside, w .inv .0 .fewer on), a .pre .1 .1))
 
 add-at : tie.Need-add-at Inv-loop μ-loop
 add-at c =
@@ -81,7 +81,7 @@ loop-again c =
     let goes = c .before .both .ensures ∙ ap (λ (b : Bool). b && not (r .say .result .done)) (p .put .ensures) in (
       next ourEquipment (a .args .q) block (a .args .last) (a .args .before) (a .pre .0 .1) (w .inv .0) (r .before .before .before .loop-test .taken) _
           (rest-is block (w .at)) (r .say .result) (r .say .ensures) (c .before .both .result) (c .both2 .result) goes (c .both2 .ensures),
-      r .say .kept .1 .1 .1 .0 ∙ w .inv .1,
+      r .say .kept .1 .1 .1 .1 .0 ∙ w .inv .1,
     )
 
 same-length : tie.Need-same-length Inv-loop μ-loop

@@ -1,6 +1,6 @@
 -- `board::run` meets its contract, and ends: a turn that goes on has read some of the 10^12 bytes that may be read.
 -- Assumes nothing.
-use mathlib.Core.Path.{_≡_, refl, sym, _∙_}
+use mathlib.Core.Path.{_≡_, refl, sym, ap, _∙_}
 use mathlib.Core.Bool.{false, cond}
 use Prim.Native.Nat.{ℕ, _+_, _≤_}
 use native.Mathlib.Omega.{arith}
@@ -101,7 +101,13 @@ answer-requires c κs =
     let w = r .before .before .before .loop in
     let a = r .before .before .before .before .before .before .before .before .before in
     let t = read-here r in
-    ((w .inv .2 ∙ a .pre .1, talks-block t (n .bytes .ensures) _), room-to-count t (n .bytes .ensures))
+    let test = n .before in (
+      (w .inv .2 ∙ a .pre .1, talks-block t (n .bytes .ensures) _),
+      (
+        room-to-count t (n .bytes .ensures),
+        record { well = sym (test .before .failed .ensures) ∙ test .if1 .left; is = ap (λ (m : ℕ). eqb m 0) (n .bytes .ensures) },
+      ),
+    )
 
 to-front-requires : tie.Need-to-front-requires Inv-loop μ-loop
 to-front-requires c κs =
@@ -129,7 +135,7 @@ loop-again c =
     let well = sym (test .before .failed .ensures) ∙ test .if1 .left in
     let turned = turning-next (read-here r) (n .bytes .ensures) (a .answer .ensures) (eqb-true _ 0) (some _) well
     (f .to-front .last .0) (f .to-front .result) (f .to-front .ensures .0) (f .to-front .ensures .1) in
-    (turned, f .to-front .kept .0 ∙ r .read-to .kept .0 ∙ w .inv .1, a .answer .kept .1 .1 .1 .0 ∙ w .inv .2)
+    (turned, f .to-front .kept .0 ∙ r .read-to .kept .0 ∙ w .inv .1, a .answer .kept .1 .1 .1 .1 .0 ∙ w .inv .2)
 
 same-length-3 : tie.Need-same-length-3 Inv-loop μ-loop
 same-length-3 c = search needs

@@ -25,7 +25,7 @@ hand-over-requires c κs =
     let r = c .before .before .before .before in
     let a = r .before .before .before .before in (
       due ourEquipment (a .args .q) (now (a .args .block)) (a .args .last) (a .args .before) (now (a .args .out)) _ (a .pre .0 .0)
-          (r .respond .result) (r .respond .ensures .0) (a .pre .0 .1),
+          (r .respond .result) (r .respond .ensures .0) (a .pre .0 .1) (a .args .input) (a .pre .1 .1),
       omega (arith, a .pre, r .respond .ensures .1 .0, lent-length (r .respond .ensures .0 .written)),
     )
 
