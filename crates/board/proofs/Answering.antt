@@ -17,13 +17,13 @@ use Rattle.program.specs.States.{isDone}
 use Rattle.program.specs.Saying.{Said}
 use Rattle.program.specs.Responses.{longest, respondOf}
 use Rattle.program.specs.Sessions.{Session, delivered}
-use Rattle.program.specs.Standing.{again, called}
+use Rattle.program.specs.Standing.{again, calledAgain}
 use Rattle.program.specs.declared.State.{State}
 use Rattle.program.proofs.Responding.{nothing-left}
 use Rattle.program.proofs.Standing.{reached-fit, standing-called}
 use Rattle.respond.specs.Answering.{Responds}
 use Rattle.respond.specs.declared.Responded.{Responded}
-use Rattle.board.specs.Loop.{Tells, Talks, Due, Says, outRoom, Answers}
+use Rattle.board.specs.Loop.{Tells, Talks, Due, Says, outRoom, AnswersBlock}
 use Rattle.board.specs.declared.stdio.Input.{Input}
 use Rattle.board.specs.declared.stdio.Handed.{Handed}
 use Rattle.board.specs.declared.Spoken.{Spoken}
@@ -82,7 +82,7 @@ module _ (e : Equipment) (q : State) (block : List ℕ) (last : Bool) (before : 
   pub record Going (state : State) (at : ℕ) (handed : Handed) (going more : Bool) : Type 0 where
     pub calls : ℕ
     pub text : List ℕ
-    pub is : called e last outRoom calls (record { state = q; left = block; text = [] }) ≡ record { state = state; left = drop at block; text = text }
+    pub is : calledAgain e last outRoom calls (record { state = q; left = block; text = [] }) ≡ record { state = state; left = drop at block; text = text }
     pub inside : at ≤ length block
     pub counted : handed .bytes ≡ before .bytes + length text
     pub few : handed .bytes ≤ before .bytes + outRoom * (at + 1)
@@ -93,7 +93,7 @@ module _ (e : Equipment) (q : State) (block : List ℕ) (last : Bool) (before : 
     pub stops : more ≡ false → going ≡ false → handed .put ≡ true → isDone state ≡ true
 
   pub first : before .put ≡ true → Going q 0 before true true
-  unfolding called
+  unfolding calledAgain
   first p =
       record {
         calls = 0;
@@ -123,9 +123,9 @@ module _ (e : Equipment) (q : State) (block : List ℕ) (last : Bool) (before : 
       said = respondOf e state part last outRoom
 
       -- the session after the call
-      next-is : called e last outRoom (suc (g .calls)) (record { state = q; left = block; text = [] })
+      next-is : calledAgain e last outRoom (suc (g .calls)) (record { state = q; left = block; text = [] })
           ≡ record { state = r .state; left = drop (at + r .taken) block; text = g .text ++ said .text }
-      unfolding called
+      unfolding calledAgain
       next-is =
           let whole : drop at block ++ [] ≡ part = append-nil (drop at block) ∙ sym p in
           ap (λ (k : Session). delivered e last k (again outRoom)) (g .is)
@@ -191,7 +191,7 @@ module _ (e : Equipment) (q : State) (block : List ℕ) (last : Bool) (before : 
   -- ---- the end of the loop
 
   pub answers : {state : State} {at : ℕ} {handed : Handed} {going more : Bool} → more ≡ false → Going state at handed going more
-      → Answers e q block last before (record { state = state; at = at; handed = handed; going = going })
+      → AnswersBlock e q block last before (record { state = state; at = at; handed = handed; going = going })
   answers m g =
       record {
         calls = g .calls;

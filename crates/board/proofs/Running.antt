@@ -21,11 +21,11 @@ use Rattle.program.specs.Standing.{Reached, Standing}
 use Rattle.program.specs.declared.State.{State}
 use Rattle.program.proofs.Cuts.{drop-take}
 use Rattle.program.proofs.Standing.{reached-opened, reached-came, reached-called, reached-transcript}
-use Rattle.board.specs.Loop.{unread, readAfter, readFailed, Talks, Waits, unsaid, outRoom, Answers, Runs}
+use Rattle.board.specs.Loop.{unread, readAfter, readFailed, Talks, Waits, unsaid, outRoom, AnswersBlock, Runs}
 use Rattle.board.specs.declared.stdio.Input.{Input}
 use Rattle.board.specs.declared.stdio.Handed.{Handed}
 use Rattle.board.specs.declared.Answered.{Answered}
-use Rattle.board.specs.declared.Ran.{Ran}
+use Rattle.board.specs.declared.RunEnd.{RunEnd}
 
 -- where the loop stands: before a read, or at the end
 pub record Turning (e : Equipment) (buf : List ℕ) (state : State) (have : ℕ) (input : Input) (handed : Handed) (going : Bool) : Type 0 where
@@ -169,7 +169,7 @@ module _ {e : Equipment} {state : State} {have : ℕ} {i : Input} {handed : Hand
 
   -- ---- its answers; the input has ended where none came
 
-  module _ {last : Bool} {r : Answered} (answers : Answers e state block last handed r) where
+  module _ {last : Bool} {r : Answered} (answers : AnswersBlock e state block last handed r) where
     pub at-inside : r .at ≤ have + n
     at-inside = omega (arith, answers .inside, block-length)
 

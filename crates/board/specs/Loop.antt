@@ -16,13 +16,13 @@ use Rattle.rules.specs.Text.{hasFeed}
 use Rattle.rules.specs.Transcripts.{inputEnd, transcript}
 use Rattle.program.specs.States.{isDone}
 use Rattle.program.specs.Responses.{longest, respondOf}
-use Rattle.program.specs.Standing.{Standing, called}
+use Rattle.program.specs.Standing.{Standing, calledAgain}
 use Rattle.program.specs.declared.State.{State}
 use Rattle.board.specs.declared.stdio.Input.{Input}
 use Rattle.board.specs.declared.stdio.Handed.{Handed}
 use Rattle.board.specs.declared.Spoken.{Spoken}
 use Rattle.board.specs.declared.Answered.{Answered}
-use Rattle.board.specs.declared.Ran.{Ran}
+use Rattle.board.specs.declared.RunEnd.{RunEnd}
 
 -- ---- reading
 
@@ -99,11 +99,11 @@ pub record Says (e : Equipment) (q : State) (block : List ℕ) (last : Bool) (be
 
 -- ---- the answers to a block
 
-pub record Answers (e : Equipment) (q : State) (block : List ℕ) (last : Bool) (before : Handed) (r : Answered) : Type 0 where
+pub record AnswersBlock (e : Equipment) (q : State) (block : List ℕ) (last : Bool) (before : Handed) (r : Answered) : Type 0 where
   -- the state, what is left of the block and what was said are those of so many calls of `respond`, and what was said is handed over
   pub calls : ℕ
   pub text : List ℕ
-  pub is : called e last outRoom calls (record { state = q; left = block; text = [] }) ≡ record { state = r .state; left = drop (r .at) block; text = text }
+  pub is : calledAgain e last outRoom calls (record { state = q; left = block; text = [] }) ≡ record { state = r .state; left = drop (r .at) block; text = text }
   pub said : r .handed .bytes ≡ before .bytes + length text
   pub inside : r .at ≤ length block
   pub few : r .handed .bytes ≤ before .bytes + outRoom * (r .at + 1)
@@ -118,7 +118,7 @@ pub record Answers (e : Equipment) (q : State) (block : List ℕ) (last : Bool) 
 -- ---- a run
 
 -- with `buffer` what stands in the program's buffer at the end
-pub record Runs (e : Equipment) (buffer : List ℕ) (r : Ran) : Type 0 where
+pub record Runs (e : Equipment) (buffer : List ℕ) (r : RunEnd) : Type 0 where
   -- whether `respond` was told that the input has ended
   pub ended : Bool
   -- a session stands at the state with what is left in the buffer, and has said as many bytes as were handed over

@@ -5,7 +5,7 @@ ghost use mathlib.Core.Bool.{true, _&&_};
 ghost use Prim.Native.Nat.{_+_, _*_, _-_, _≤_, _<_};
 ghost use lib.ListN.{length, take, drop};
 ghost use Rattle.rules.specs.Regions.{ourEquipment};
-ghost use Rattle.board.specs.Loop.{blockRoom, outRoom, Talks, Says, Answers, Runs, Tells};
+ghost use Rattle.board.specs.Loop.{blockRoom, outRoom, Talks, Says, AnswersBlock, Runs, Tells};
 
 mod stdio;
 
@@ -72,7 +72,7 @@ fn answer(
     requires { ⌜ (length (now out) ≡ outRoom) × (Talks ourEquipment last q (now block) before) ⌝ }
     requires { ⌜ before .bytes + outRoom * (length (now block) + 1) < 18446744073709551616 ⌝ }
     requires { ⌜ Tells input last ⌝ }
-    ensures { λ r. ⌜ Answers ourEquipment q (now (block .entry)) last before r ⌝ }
+    ensures { λ r. ⌜ AnswersBlock ourEquipment q (now (block .entry)) last before r ⌝ }
 {
     let end = block.len();
     let mut state = q;
@@ -112,7 +112,7 @@ fn to_front(buf: &mut [u8], from: usize, end: usize) -> usize
 }
 
 // How a run ended: the state, how many bytes are left in the buffer, and how far reading and writing are.
-struct Ran {
+struct RunEnd {
     state: State,
     have: usize,
     input: Input,
@@ -121,7 +121,7 @@ struct Ran {
 
 // Blocks of input until its end, or until all is done: no more than 10^12 bytes are read. No more than 128 bytes wait for their line
 // feed, so there is always room to read to.
-fn run(buf: &mut [u8], out: &mut [u8]) -> Ran
+fn run(buf: &mut [u8], out: &mut [u8]) -> RunEnd
     requires { ⌜ (length (now buf) ≡ blockRoom) × (length (now out) ≡ outRoom) ⌝ }
     ensures { λ r. ⌜ Runs ourEquipment (now (buf .exit)) r ⌝ }
 {
@@ -133,7 +133,7 @@ fn run(buf: &mut [u8], out: &mut [u8]) -> Ran
     while going {
         input = read_to(buf, have, state, handed, input);
         if input.failed() {
-            return Ran {
+            return RunEnd {
                 state,
                 have,
                 input,
@@ -148,7 +148,7 @@ fn run(buf: &mut [u8], out: &mut [u8]) -> Ran
         handed = a.handed;
         going = a.going;
     }
-    Ran {
+    RunEnd {
         state,
         have,
         input,

@@ -25,7 +25,7 @@ fn yes(b: bool) -> u64 {
 }
 
 // What a call makes of a block: how many bytes it takes, whether all is done, and what it writes.
-fn answer(label: &[u8], state: State, block: &[u8]) {
+fn show_answer(label: &[u8], state: State, block: &[u8]) {
     let mut out = [0u8; 256];
     let r = respond(state, block, false, &mut out);
     let taken = r.taken as u64;
@@ -42,7 +42,7 @@ fn sample(label: &[u8], left: u64) {
         return;
     }
     let state = lent(1, 14, false, INPUT_END - left);
-    answer(label, state, b"(at (1000 1000 1000) 60000 1 10000 10000)\n");
+    show_answer(label, state, b"(at (1000 1000 1000) 60000 1 10000 10000)\n");
 }
 
 pub fn ends() {
@@ -51,52 +51,52 @@ pub fn ends() {
     sample(b"a line whose line feed is cut off, taken: ", 41);
     sample(b"a line of which one byte is read, taken: ", 1);
     sample(b"a line behind the last byte, taken: ", 0);
-    answer(
+    show_answer(
         b"two lines, the second cut off, taken: ",
         lent(1, 14, false, INPUT_END - 45),
         b"(at (1000 1000 1000) 60000 1 10000 10000)\n(at (1000 1000 1000) 60000 1 10000 10000)\n",
     );
-    answer(
+    show_answer(
         b"the end of a line longer than any form, taken: ",
         lent(1, 14, true, INPUT_END - 3),
         b"1)\n",
     );
-    answer(
+    show_answer(
         b"such a line, cut off, taken: ",
         lent(1, 14, true, INPUT_END - 2),
         b"1)\n",
     );
-    answer(
+    show_answer(
         b"sheet line 13 missing at the last byte, taken: ",
         lent(0, 13, false, INPUT_END),
         b"(watt (10600 10000) (11000 2000))\n",
     );
-    answer(
+    show_answer(
         b"a state past the last byte, taken: ",
         lent(1, 14, false, INPUT_END + 1),
         b"(at (1000 1000 1000) 60000 1 10000 10000)\n",
     );
-    answer(
+    show_answer(
         b"a state with the largest count, taken: ",
         lent(1, 14, false, 18446744073709551615),
         b"(at)\n",
     );
-    answer(
+    show_answer(
         b"a state at line 0, taken: ",
         lent(1, 0, false, 1000),
         b"(at)\n",
     );
-    answer(
+    show_answer(
         b"a state of more lines than bytes, taken: ",
         lent(1, 14, false, 12),
         b"(at)\n",
     );
-    answer(
+    show_answer(
         b"a state in the sheet past line 13, taken: ",
         lent(0, 14, false, 1000),
         b"(at)\n",
     );
-    answer(
+    show_answer(
         b"a state in which all is done, taken: ",
         lent(2, 14, false, 1000),
         b"(at)\n",

@@ -116,7 +116,7 @@ fn volts_of(code: u32) -> u64 {
 }
 
 // The status that an answer shows, or 100 and the refusal's number.
-fn shown(answer: Answer) -> u64 {
+fn status_of(answer: Answer) -> u64 {
     match answer {
         Answer::Reported(r) => wide8(r.status),
         Answer::Refused(cause) => 100 + refusal_number(cause) as u64,
@@ -124,11 +124,11 @@ fn shown(answer: Answer) -> u64 {
 }
 
 // The answer to one call on a fresh record.
-fn first(s: Settings, code: u32, frequency: u32, permission: u32, available: u32) -> u64 {
+fn first_status(s: Settings, code: u32, frequency: u32, permission: u32, available: u32) -> u64 {
     let x = [code, 1000, 1000, frequency, permission, available, 10000];
     let t = service::step::step(service::fresh(), s, &x);
     let answer = t.answer;
-    shown(answer)
+    status_of(answer)
 }
 
 // In service, then n steps with all phases above ov2: the last status.
@@ -144,7 +144,7 @@ fn status_above_ov2(n: u32) -> u64 {
         i += 1;
     }
     let answer = t.answer;
-    shown(answer)
+    status_of(answer)
 }
 
 fn saved_number(answer: Saved) -> u64 {
@@ -194,12 +194,21 @@ fn main() {
     show(b"code 4095: ", volts_of(4095));
     show(b"code 4096: ", volts_of(4096));
     let s = sheet();
-    show(b"lowest voltage 9170: ", first(s, 841, 60000, 1, 10000));
-    show(b"lowest voltage 9165: ", first(s, 840, 60000, 1, 10000));
-    show(b"code above the table: ", first(s, 4096, 60000, 1, 10000));
-    show(b"frequency 39999: ", first(s, 1000, 39999, 1, 10000));
-    show(b"permission 2: ", first(s, 1000, 60000, 2, 10000));
-    show(b"available 10001: ", first(s, 1000, 60000, 1, 10001));
+    show(
+        b"lowest voltage 9170: ",
+        first_status(s, 841, 60000, 1, 10000),
+    );
+    show(
+        b"lowest voltage 9165: ",
+        first_status(s, 840, 60000, 1, 10000),
+    );
+    show(
+        b"code above the table: ",
+        first_status(s, 4096, 60000, 1, 10000),
+    );
+    show(b"frequency 39999: ", first_status(s, 1000, 39999, 1, 10000));
+    show(b"permission 2: ", first_status(s, 1000, 60000, 2, 10000));
+    show(b"available 10001: ", first_status(s, 1000, 60000, 1, 10001));
     show(b"fifteen steps above ov2: ", status_above_ov2(15));
     show(b"sixteen steps above ov2: ", status_above_ov2(16));
     images();

@@ -60,7 +60,7 @@ abbrev pub lineAt : List Line → ℕ → Line
 lineAt lines k = getD lines k (unended [])
 
 -- there is a line k, and it is this accepted sample
-pub record SampleAt (lines : List Line) (k : ℕ) (x : Slice) : Type 0 where
+pub record AcceptedAt (lines : List Line) (k : ℕ) (x : Slice) : Type 0 where
   pub line : k < length lines
   pub sample : sampleOn (lineAt lines k) ≡ some x
   pub accepted : sampleAccepted x ≡ true
@@ -94,13 +94,13 @@ sameText (b ∷ s) (c ∷ t) = eqb b c && sameText s t
 abbrev pub isReport : List ℕ → Bool
 isReport text = sameText (untilSpace text) (bytes "(report")
 
-abbrev pub statusWord : List ℕ → List ℕ
-statusWord text = untilSpace (afterSpace text)
+abbrev pub printedStatus : List ℕ → List ℕ
+printedStatus text = untilSpace (afterSpace text)
 
 -- the status word of the last report among answers, and `word` where there is none
 abbrev pub shownAfter : List ℕ → List (List ℕ) → List ℕ
 shownAfter word [] = word
-shownAfter word (t ∷ ts) = shownAfter (cond (isReport t) (statusWord t) word) ts
+shownAfter word (t ∷ ts) = shownAfter (cond (isReport t) (printedStatus t) word) ts
 
 abbrev pub trippedWord : List ℕ
 trippedWord = bytes "tripped"
@@ -111,7 +111,7 @@ lastShown answers = shownAfter trippedWord answers
 
 -- ---- what is claimed
 
--- texts one after the other
+-- lists of numbers one after the other: the bytes of texts, the numbers of samples
 abbrev pub joined : List (List ℕ) → List ℕ
 joined [] = []
 joined (t ∷ ts) = t ++ joined ts
@@ -123,22 +123,22 @@ pub record Printed (e : Equipment) (st : Settings) (lines : List Line) (text : L
   pub whole : text ≡ joined answers
   pub one-each : length answers ≡ length lines
   -- a line is an accepted sample, or it has a first cause
-  pub either : (k : ℕ) → k < length lines → ((x : Slice) × SampleAt lines k x) ⊎ ((why : Refusal) × CauseAt lines k why)
+  pub either : (k : ℕ) → k < length lines → ((x : Slice) × AcceptedAt lines k x) ⊎ ((why : Refusal) × CauseAt lines k why)
   -- an accepted sample is answered with the report that it and the accepted samples before it alone give
-  pub reports : (k : ℕ) (x : Slice) → SampleAt lines k x
+  pub reports : (k : ℕ) (x : Slice) → AcceptedAt lines k x
       → getD answers k [] ≡ reportLine (reportOf (historyReport e st (x ∷ samplesOn (take k lines))))
   -- any other line with its first cause and its number, the first line after a sheet being 14
   pub refuses : (k : ℕ) (why : Refusal) → CauseAt lines k why → getD answers k [] ≡ refusedLine why (14 + k)
   -- not tripped by the last report before it, a sample's report says `tripped` exactly when permission is off or some limit has been broken for its
   -- whole clearing time, ending there
-  pub trips : (k : ℕ) (x : Slice) → SampleAt lines k x → ¬ (lastShown (take k answers) ≡ trippedWord)
-      → (statusWord (getD answers k []) ≡ trippedWord) ↔ ((permitted x ≡ false) ⊎ RanOut e st (x ∷ samplesOn (take k lines)))
+  pub trips : (k : ℕ) (x : Slice) → AcceptedAt lines k x → ¬ (lastShown (take k answers) ≡ trippedWord)
+      → (printedStatus (getD answers k []) ≡ trippedWord) ↔ ((permitted x ≡ false) ⊎ RanOut e st (x ∷ samplesOn (take k lines)))
   -- tripped by it, or with none before it, the report says another word exactly when the full wait has just been in range with permission on
-  pub returns : (k : ℕ) (x : Slice) → SampleAt lines k x → lastShown (take k answers) ≡ trippedWord
-      → (¬ (statusWord (getD answers k []) ≡ trippedWord)) ↔ WaitFull e st (x ∷ samplesOn (take k lines))
+  pub returns : (k : ℕ) (x : Slice) → AcceptedAt lines k x → lastShown (take k answers) ≡ trippedWord
+      → (¬ (printedStatus (getD answers k []) ≡ trippedWord)) ↔ WaitFull e st (x ∷ samplesOn (take k lines))
   -- and it does so in the continuous operation region only
-  pub returns-continuous : (k : ℕ) (x : Slice) → SampleAt lines k x → lastShown (take k answers) ≡ trippedWord
-      → ¬ (statusWord (getD answers k []) ≡ trippedWord) → regionOf e x ≡ Continuous
+  pub returns-continuous : (k : ℕ) (x : Slice) → AcceptedAt lines k x → lastShown (take k answers) ≡ trippedWord
+      → ¬ (printedStatus (getD answers k []) ≡ trippedWord) → regionOf e x ≡ Continuous
 
 -- spec 10.9: the part of an input that is read
 abbrev pub readPart : List ℕ → List ℕ

@@ -30,7 +30,7 @@ use Rattle.formats.proofs.Sheets.{sheet-read-back, sheet-written-out, one-readi
 use Rattle.formats.proofs.Forms.{forms-read}
 use Rattle.formats.proofs.SampleLines.{samples-answered, one-answer}
 use Rattle.formats.proofs.Samples.{sample-reads-back, sample-written-out}
-use Rattle.program.specs.Sessions.{joined}
+use Rattle.program.specs.Sessions.{inputOf}
 use Rattle.program.proofs.Sessions.{transcript-law}
 use Rattle.program.proofs.Standing.{standing-law}
 use Rattle.demands.specs.Demands.{ours, OurRefusals, OurSheetRefusals, OurTranscript, OurTripAndReturn, OurTwoHistories, SheetsReadBack, SheetsWrittenOut}
@@ -123,7 +123,7 @@ pub onePrinting : OnePrinting
 onePrinting = one-printing ourEquipment our-equipment-sound
 
 pub sessionsPrinted : SessionsPrinted
-sessionsPrinted print right cs sizes done = ourTranscript .done cs sizes done ∙ sym (onePrinting print right (joined cs))
+sessionsPrinted print right cs sizes done = ourTranscript .done cs sizes done ∙ sym (onePrinting print right (inputOf cs))
 
 pub samplesOnLines : SamplesOnLines
 samplesOnLines = samples-on-lines
@@ -204,7 +204,7 @@ shamImagesCaught = record { accepted = (quick-accepted, waiting-accepted); ramp 
 
 pub shamReadingsCaught : ShamReadingsCaught
 shamReadingsCaught =
-    record { turnedAway = turned-away; unended = let-in; large = no-large; unendedSample = no-unended; carriageReturn = no-return; asLent = as-lent }
+    record { goodSheet = turned-away; unended = let-in; large = no-large; unendedSample = no-unended; carriageReturn = no-return; asLent = as-lent }
 
 pub shamPrintingsCaught : ShamPrintingsCaught
 shamPrintingsCaught = record { goes-on = no-more; nothing = not-nothing }

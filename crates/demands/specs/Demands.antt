@@ -44,7 +44,7 @@ use Rattle.formats.specs.Marks.{ReadsForms}
 use Rattle.formats.specs.Samples.{writable, writtenSample, Answering, AnswersSamples, ReadsBack, BeginsWithSample}
 use Rattle.roots.specs.Root.{IsRoot}
 use Rattle.program.specs.States.{isDone}
-use Rattle.program.specs.Sessions.{Delivery, opened, during, ending, joined, TranscriptLaw}
+use Rattle.program.specs.Sessions.{Delivery, opened, during, ending, inputOf, TranscriptLaw}
 use Rattle.program.specs.Standing.{StandingLaw}
 use Rattle.claims.specs.Calls.{Program, ruledBy, Operations, operationsBy}
 use Rattle.claims.specs.Sound.{Sound}
@@ -57,7 +57,7 @@ use Rattle.claims.specs.TripAndReturn.{Demand2}
 use Rattle.claims.specs.TwoHistories.{TwoHistoriesBy, Demand3By, Demand3}
 use Rattle.claims.specs.Bits.{UnpacksBits}
 use Rattle.claims.specs.LentRecords.{ReadsRecords}
-use Rattle.claims.specs.Printed.{sampleOn, statusWord, PrintsByHistory}
+use Rattle.claims.specs.Printed.{sampleOn, printedStatus, PrintsByHistory}
 use Rattle.replay.specs.Replays.{groups, replayed, replayedInto}
 use Rattle.replay.specs.Demanded.{GroupsBySeven, ReplaysRightly}
 use Rattle.saltdelta.specs.Answers.{sheetAnswer, settingsAfter}
@@ -215,7 +215,7 @@ abbrev pub SessionsPrinted : Type 0
 SessionsPrinted =
     (print : List ℕ → List ℕ) → PrintsByHistory ourEquipment print
     → (cs : List Delivery) (sizes : List ℕ) → isDone (ending ourEquipment (during ourEquipment opened cs) sizes .state) ≡ true
-    → ending ourEquipment (during ourEquipment opened cs) sizes .text ≡ print (joined cs)
+    → ending ourEquipment (during ourEquipment opened cs) sizes .text ≡ print (inputOf cs)
 
 -- A line's sample there (`sampleOn`) is x exactly when the line is x written out and ended, x having seven numbers of at most six digits.
 abbrev pub SamplesOnLines : Type 0
@@ -224,7 +224,7 @@ SamplesOnLines = (l : Line) (x : Slice) → (sampleOn l ≡ some x) ↔ ((writab
 -- Each status has a word of its own: two report lines have the same word exactly when their statuses are the same.
 abbrev pub StatusWordsTell : Type 0
 StatusWordsTell =
-    (r q : Report) → r .status ≤ 5 → q .status ≤ 5 → (statusWord (reportLine r) ≡ statusWord (reportLine q)) ↔ (r .status ≡ q .status)
+    (r q : Report) → r .status ≤ 5 → q .status ≤ 5 → (printedStatus (reportLine r) ≡ printedStatus (reportLine q)) ↔ (r .status ≡ q .status)
 
 -- ---- the bits of a report
 
@@ -342,7 +342,7 @@ pub record ShamRefusalsCaught : Type 0 where
 -- unended sample line, or on one with a carriage return before its line feed, take more than samples. A board that takes a lent record as it stands
 -- does not read it.
 pub record ShamReadingsCaught : Type 0 where
-  pub turnedAway : ¬ ReadsSheetsBack refusesNoWait
+  pub goodSheet : ¬ ReadsSheetsBack refusesNoWait
   pub unended : ¬ AcceptsSheetsOnly takesUnended
   pub large : ¬ ReadsForms largeNoNumber
   pub unendedSample : ¬ AnswersSamples stepsUnended

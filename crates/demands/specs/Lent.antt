@@ -22,41 +22,41 @@ abbrev pub board : ℕ → List ℕ → ℕ → ℕ → ℤ → Board
 board status counters ramp watts vars = record { status = status; counters = counters; ramp = ramp; watts = watts; vars = vars }
 
 -- a lent record, and what it is read as
-pub record Row : Type 0 where
+pub record LentRow : Type 0 where
   pub lent : Board
   pub read : Board
 
 -- the first is read as the second
-abbrev pub row : Board → Board → Row
-row lent read = record { lent = lent; read = read }
+abbrev pub lentRow : Board → Board → LentRow
+lentRow lent read = record { lent = lent; read = read }
 
 -- read as it stands
-abbrev pub stands : Board → Row
-stands lent = row lent lent
+abbrev pub stands : Board → LentRow
+stands lent = lentRow lent lent
 
-abbrev pub AllRead : Settings → List Row → Type 0
+abbrev pub AllRead : Settings → List LentRow → Type 0
 AllRead st [] = Unit {0}
 AllRead st (r ∷ rs) = (readAs ourEquipment st (r .lent) ≡ r .read) × AllRead st rs
 
-unfoldable pub lentRows : List Row
+unfoldable pub lentRows : List LentRow
 lentRows =
     -- a counter one above its top
-    row (board 1 (nine 2101 0 0 0 0 0 0 0 0) 0 0 (pos 0)) (board 1 (nine 2100 0 0 0 0 0 0 0 0) 0 0 (pos 0))
-    ∷ row (board 1 (nine 0 201 0 0 0 0 0 0 0) 0 0 (pos 0)) (board 1 (nine 0 200 0 0 0 0 0 0 0) 0 0 (pos 0))
-    ∷ row (board 1 (nine 0 0 1301 0 0 0 0 0 0) 0 0 (pos 0)) (board 1 (nine 0 0 1300 0 0 0 0 0 0) 0 0 (pos 0))
-    ∷ row (board 1 (nine 0 0 0 17 0 0 0 0 0) 0 0 (pos 0)) (board 1 (nine 0 0 0 16 0 0 0 0 0) 0 0 (pos 0))
-    ∷ row (board 1 (nine 0 0 0 0 30001 0 0 0 0) 0 0 (pos 0)) (board 1 (nine 0 0 0 0 30000 0 0 0 0) 0 0 (pos 0))
-    ∷ row (board 1 (nine 0 0 0 0 0 17 0 0 0) 0 0 (pos 0)) (board 1 (nine 0 0 0 0 0 16 0 0 0) 0 0 (pos 0))
-    ∷ row (board 1 (nine 0 0 0 0 0 0 30001 0 0) 0 0 (pos 0)) (board 1 (nine 0 0 0 0 0 0 30000 0 0) 0 0 (pos 0))
-    ∷ row (board 1 (nine 0 0 0 0 0 0 0 17 0) 0 0 (pos 0)) (board 1 (nine 0 0 0 0 0 0 0 16 0) 0 0 (pos 0))
-    ∷ row (board 1 (nine 0 0 0 0 0 0 0 0 2) 0 0 (pos 0)) (board 1 (nine 0 0 0 0 0 0 0 0 1) 0 0 (pos 0))
+    lentRow (board 1 (nine 2101 0 0 0 0 0 0 0 0) 0 0 (pos 0)) (board 1 (nine 2100 0 0 0 0 0 0 0 0) 0 0 (pos 0))
+    ∷ lentRow (board 1 (nine 0 201 0 0 0 0 0 0 0) 0 0 (pos 0)) (board 1 (nine 0 200 0 0 0 0 0 0 0) 0 0 (pos 0))
+    ∷ lentRow (board 1 (nine 0 0 1301 0 0 0 0 0 0) 0 0 (pos 0)) (board 1 (nine 0 0 1300 0 0 0 0 0 0) 0 0 (pos 0))
+    ∷ lentRow (board 1 (nine 0 0 0 17 0 0 0 0 0) 0 0 (pos 0)) (board 1 (nine 0 0 0 16 0 0 0 0 0) 0 0 (pos 0))
+    ∷ lentRow (board 1 (nine 0 0 0 0 30001 0 0 0 0) 0 0 (pos 0)) (board 1 (nine 0 0 0 0 30000 0 0 0 0) 0 0 (pos 0))
+    ∷ lentRow (board 1 (nine 0 0 0 0 0 17 0 0 0) 0 0 (pos 0)) (board 1 (nine 0 0 0 0 0 16 0 0 0) 0 0 (pos 0))
+    ∷ lentRow (board 1 (nine 0 0 0 0 0 0 30001 0 0) 0 0 (pos 0)) (board 1 (nine 0 0 0 0 0 0 30000 0 0) 0 0 (pos 0))
+    ∷ lentRow (board 1 (nine 0 0 0 0 0 0 0 17 0) 0 0 (pos 0)) (board 1 (nine 0 0 0 0 0 0 0 16 0) 0 0 (pos 0))
+    ∷ lentRow (board 1 (nine 0 0 0 0 0 0 0 0 2) 0 0 (pos 0)) (board 1 (nine 0 0 0 0 0 0 0 0 1) 0 0 (pos 0))
     -- all nine at their tops, and one below
     ∷ stands (board 0 (nine 2100 200 1300 16 30000 16 30000 16 1) 0 0 (pos 0))
     ∷ stands (board 3 (nine 2099 199 1299 15 29999 15 29999 15 0) 40 4000 (pos 4393))
     -- a status that has no name
-    ∷ row (board 6 (nine 7 7 7 7 7 7 7 7 1) 0 5000 (pos 100)) (board 0 (nine 7 7 7 7 7 7 7 7 1) 0 5000 (pos 100))
-    ∷ row (board 6 (nine 7 7 7 7 7 7 7 7 1) 50 5000 (pos 100)) (board 0 (nine 7 7 7 7 7 7 7 7 1) 0 5000 (pos 100))
-    ∷ row (board 255 (nine 0 0 0 0 0 0 0 0 0) 0 0 (pos 0)) (board 0 (nine 0 0 0 0 0 0 0 0 0) 0 0 (pos 0))
+    ∷ lentRow (board 6 (nine 7 7 7 7 7 7 7 7 1) 0 5000 (pos 100)) (board 0 (nine 7 7 7 7 7 7 7 7 1) 0 5000 (pos 100))
+    ∷ lentRow (board 6 (nine 7 7 7 7 7 7 7 7 1) 50 5000 (pos 100)) (board 0 (nine 7 7 7 7 7 7 7 7 1) 0 5000 (pos 100))
+    ∷ lentRow (board 255 (nine 0 0 0 0 0 0 0 0 0) 0 0 (pos 0)) (board 0 (nine 0 0 0 0 0 0 0 0 0) 0 0 (pos 0))
     -- the statuses that have one, whether or not a step could have left the record so
     ∷ stands (board 0 (nine 7 7 7 7 7 7 7 7 1) 0 5000 (pos 100))
     ∷ stands (board 1 (nine 7 7 7 7 7 7 7 7 1) 100 5000 (pos 100))
@@ -65,28 +65,28 @@ lentRows =
     ∷ stands (board 4 (nine 7 7 7 7 7 7 7 7 1) 50 5000 (pos 100))
     ∷ stands (board 5 (nine 7 7 7 7 7 7 7 7 1) 50 5000 (pos 100))
     -- a ramp count: of a tripped board, and above the ramp length
-    ∷ row (board 0 (nine 0 0 0 0 0 0 0 0 0) 50 0 (pos 0)) (board 0 (nine 0 0 0 0 0 0 0 0 0) 0 0 (pos 0))
-    ∷ row (board 0 (nine 0 0 0 0 0 0 0 0 0) 101 0 (pos 0)) (board 0 (nine 0 0 0 0 0 0 0 0 0) 0 0 (pos 0))
-    ∷ row (board 2 (nine 0 0 0 0 0 0 0 0 0) 101 0 (pos 0)) (board 2 (nine 0 0 0 0 0 0 0 0 0) 100 0 (pos 0))
+    ∷ lentRow (board 0 (nine 0 0 0 0 0 0 0 0 0) 50 0 (pos 0)) (board 0 (nine 0 0 0 0 0 0 0 0 0) 0 0 (pos 0))
+    ∷ lentRow (board 0 (nine 0 0 0 0 0 0 0 0 0) 101 0 (pos 0)) (board 0 (nine 0 0 0 0 0 0 0 0 0) 0 0 (pos 0))
+    ∷ lentRow (board 2 (nine 0 0 0 0 0 0 0 0 0) 101 0 (pos 0)) (board 2 (nine 0 0 0 0 0 0 0 0 0) 100 0 (pos 0))
     ∷ stands (board 2 (nine 0 0 0 0 0 0 0 0 0) 100 0 (pos 0))
     -- watts above the rating
-    ∷ row (board 2 (nine 0 0 0 0 0 0 0 0 1) 100 10001 (pos 0)) (board 2 (nine 0 0 0 0 0 0 0 0 1) 100 10000 (pos 0))
-    ∷ row (board 0 (nine 0 0 0 0 0 0 0 0 1) 0 65535 (pos 0)) (board 0 (nine 0 0 0 0 0 0 0 0 1) 0 10000 (pos 0))
+    ∷ lentRow (board 2 (nine 0 0 0 0 0 0 0 0 1) 100 10001 (pos 0)) (board 2 (nine 0 0 0 0 0 0 0 0 1) 100 10000 (pos 0))
+    ∷ lentRow (board 0 (nine 0 0 0 0 0 0 0 0 1) 0 65535 (pos 0)) (board 0 (nine 0 0 0 0 0 0 0 0 1) 0 10000 (pos 0))
     ∷ stands (board 2 (nine 0 0 0 0 0 0 0 0 1) 100 10000 (pos 0))
     -- vars, as they stand
     ∷ stands (board 2 (nine 0 0 0 0 0 0 0 0 1) 100 0 (pos 32767))
     ∷ stands (board 0 (nine 0 0 0 0 0 0 0 0 1) 0 0 (negℤ (pos 32768)))
     -- every field at its highest
-    ∷ row (board 255 (nine 4294967295 4294967295 4294967295 4294967295 4294967295 4294967295 4294967295 4294967295 4294967295) 4294967295 65535 (pos 32767))
+    ∷ lentRow (board 255 (nine 4294967295 4294967295 4294967295 4294967295 4294967295 4294967295 4294967295 4294967295 4294967295) 4294967295 65535 (pos 32767))
     (board 0 (nine 2100 200 1300 16 30000 16 30000 16 1) 0 10000 (pos 32767))
-    ∷ row (board 5 (nine 4294967295 4294967295 4294967295 4294967295 4294967295 4294967295 4294967295 4294967295 4294967295) 4294967295 65535 (pos 32767))
+    ∷ lentRow (board 5 (nine 4294967295 4294967295 4294967295 4294967295 4294967295 4294967295 4294967295 4294967295 4294967295) 4294967295 65535 (pos 32767))
     (board 5 (nine 2100 200 1300 16 30000 16 30000 16 1) 100 10000 (pos 32767))
     ∷ []
 
 -- the ninth counter where the wait is 60000, which is its top then
-unfoldable pub waitRows : List Row
+unfoldable pub waitRows : List LentRow
 waitRows =
-    row (board 0 (nine 0 0 0 0 0 0 0 0 60001) 0 0 (pos 0)) (board 0 (nine 0 0 0 0 0 0 0 0 60000) 0 0 (pos 0))
+    lentRow (board 0 (nine 0 0 0 0 0 0 0 0 60001) 0 0 (pos 0)) (board 0 (nine 0 0 0 0 0 0 0 0 60000) 0 0 (pos 0))
     ∷ stands (board 0 (nine 0 0 0 0 0 0 0 0 60000) 0 0 (pos 0))
     ∷ stands (board 0 (nine 0 0 0 0 0 0 0 0 2) 0 0 (pos 0))
     ∷ []
@@ -113,20 +113,20 @@ otherSheet =
       watt = exampleSheet 0 .watt;
     }
 
-unfoldable pub otherRows : List Row
+unfoldable pub otherRows : List LentRow
 otherRows =
     -- a counter one above its top
-    row (board 1 (nine 2501 0 0 0 0 0 0 0 0) 0 0 (pos 0)) (board 1 (nine 2500 0 0 0 0 0 0 0 0) 0 0 (pos 0))
-    ∷ row (board 1 (nine 0 301 0 0 0 0 0 0 0) 0 0 (pos 0)) (board 1 (nine 0 300 0 0 0 0 0 0 0) 0 0 (pos 0))
-    ∷ row (board 1 (nine 0 0 701 0 0 0 0 0 0) 0 0 (pos 0)) (board 1 (nine 0 0 700 0 0 0 0 0 0) 0 0 (pos 0))
-    ∷ row (board 1 (nine 0 0 0 17 0 0 0 0 0) 0 0 (pos 0)) (board 1 (nine 0 0 0 16 0 0 0 0 0) 0 0 (pos 0))
-    ∷ row (board 1 (nine 0 0 0 0 18001 0 0 0 0) 0 0 (pos 0)) (board 1 (nine 0 0 0 0 18000 0 0 0 0) 0 0 (pos 0))
-    ∷ row (board 1 (nine 0 0 0 0 0 161 0 0 0) 0 0 (pos 0)) (board 1 (nine 0 0 0 0 0 160 0 0 0) 0 0 (pos 0))
-    ∷ row (board 1 (nine 0 0 0 0 0 0 45001 0 0) 0 0 (pos 0)) (board 1 (nine 0 0 0 0 0 0 45000 0 0) 0 0 (pos 0))
-    ∷ row (board 1 (nine 0 0 0 0 0 0 0 251 0) 0 0 (pos 0)) (board 1 (nine 0 0 0 0 0 0 0 250 0) 0 0 (pos 0))
-    ∷ row (board 1 (nine 0 0 0 0 0 0 0 0 41) 0 0 (pos 0)) (board 1 (nine 0 0 0 0 0 0 0 0 40) 0 0 (pos 0))
+    lentRow (board 1 (nine 2501 0 0 0 0 0 0 0 0) 0 0 (pos 0)) (board 1 (nine 2500 0 0 0 0 0 0 0 0) 0 0 (pos 0))
+    ∷ lentRow (board 1 (nine 0 301 0 0 0 0 0 0 0) 0 0 (pos 0)) (board 1 (nine 0 300 0 0 0 0 0 0 0) 0 0 (pos 0))
+    ∷ lentRow (board 1 (nine 0 0 701 0 0 0 0 0 0) 0 0 (pos 0)) (board 1 (nine 0 0 700 0 0 0 0 0 0) 0 0 (pos 0))
+    ∷ lentRow (board 1 (nine 0 0 0 17 0 0 0 0 0) 0 0 (pos 0)) (board 1 (nine 0 0 0 16 0 0 0 0 0) 0 0 (pos 0))
+    ∷ lentRow (board 1 (nine 0 0 0 0 18001 0 0 0 0) 0 0 (pos 0)) (board 1 (nine 0 0 0 0 18000 0 0 0 0) 0 0 (pos 0))
+    ∷ lentRow (board 1 (nine 0 0 0 0 0 161 0 0 0) 0 0 (pos 0)) (board 1 (nine 0 0 0 0 0 160 0 0 0) 0 0 (pos 0))
+    ∷ lentRow (board 1 (nine 0 0 0 0 0 0 45001 0 0) 0 0 (pos 0)) (board 1 (nine 0 0 0 0 0 0 45000 0 0) 0 0 (pos 0))
+    ∷ lentRow (board 1 (nine 0 0 0 0 0 0 0 251 0) 0 0 (pos 0)) (board 1 (nine 0 0 0 0 0 0 0 250 0) 0 0 (pos 0))
+    ∷ lentRow (board 1 (nine 0 0 0 0 0 0 0 0 41) 0 0 (pos 0)) (board 1 (nine 0 0 0 0 0 0 0 0 40) 0 0 (pos 0))
     -- the ramp count one above the ramp length
-    ∷ row (board 2 (nine 0 0 0 0 0 0 0 0 0) 5001 0 (pos 0)) (board 2 (nine 0 0 0 0 0 0 0 0 0) 5000 0 (pos 0))
+    ∷ lentRow (board 2 (nine 0 0 0 0 0 0 0 0 0) 5001 0 (pos 0)) (board 2 (nine 0 0 0 0 0 0 0 0 0) 5000 0 (pos 0))
     -- all at their tops, and one below
     ∷ stands (board 2 (nine 2500 300 700 16 18000 160 45000 250 40) 5000 0 (pos 0))
     ∷ stands (board 2 (nine 2499 299 699 15 17999 159 44999 249 39) 4999 0 (pos 0))

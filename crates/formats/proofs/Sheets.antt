@@ -12,7 +12,7 @@ use Rattle.rules.specs.Tests.{all, within}
 use Rattle.rules.specs.Text.{decimal, signedDecimal, digitsBefore, leadingDigits, afterDigits, valueAfter, wellFormed, takeNumber, takeSigned, firstLine}
 use Rattle.rules.specs.Text.{hasFeed, afterLine}
 use Rattle.rules.specs.Forms.{sheetForms, numbersOf}
-use Rattle.rules.specs.Settings.{rows, inRow, rising, pointPair, linesOf, settingsCheck, isAccepted, settingsAccepted}
+use Rattle.rules.specs.Settings.{rows, inRow, rising, pointPair, linesOf, settingsCheck, settingsPassed, settingsAccepted}
 use Rattle.rules.specs.Sheets.{settingsOf, SheetReading, readFrom, readSheet}
 use Rattle.rules.specs.Defaults.{defaultSheet, defaultSettings}
 use Rattle.rules.specs.declared.Settings.{Settings}
@@ -28,7 +28,7 @@ rows-agree : agree rows sheetForms ≡ true
 unfolding agree rows sheetForms hasFeed separated within endsFit
 rows-agree = refl
 
-was-accepted : (c : SettingsCheck) → isAccepted c ≡ true → c ≡ SettingsCheck.Accepted
+was-accepted : (c : SettingsCheck) → settingsPassed c ≡ true → c ≡ SettingsCheck.Accepted
 was-accepted SettingsCheck.Accepted e = refl
 was-accepted (SettingsCheck.Refused cause n) e = absurd (false≢true e)
 
@@ -72,7 +72,7 @@ module _ (s : List ℕ) (b : Begun rows sheetForms s) where
       let rest : drop (length sheet) s ≡ b .rest = ap (drop (length sheet)) (b .text) ∙ drop-append-seam sheet (b .rest) in
       record {
         complete = lines-complete (b .lines);
-        accepted = rw same (ap isAccepted (good-checked (b .good) 1));
+        accepted = rw same (ap settingsPassed (good-checked (b .good) 1));
         start = rw same;
         text = rw (same, rest) (b .text);
       }

@@ -141,7 +141,7 @@ fn answer_to(table: &[u16; 4096], fine: bool, b: Board, s: Settings, x: LineAt) 
 }
 
 // The line is ended, and there is room for its answer.
-fn fits(ended: bool, room: usize) -> bool
+fn answerable(ended: bool, room: usize) -> bool
     ensures { λ r. ⌜ r ≡ (ended && leb lineRoom room) ⌝ }
 {
     if ended {
@@ -168,7 +168,7 @@ pub fn sample_lines(table: &[u16; 4096], h: Handled, s: &[u8], out: &mut [u8]) -
     let mut going = true;
     while going {
         let x = line_at(&form, overlong, s, at);
-        going = fits(x.ended, out.len() - w);
+        going = answerable(x.ended, out.len() - w);
         if going {
             let r = answer_to(table, fine, board, settings, x);
             let answer = r.answer;

@@ -9,11 +9,9 @@ ghost use Rattle.claims.specs.FirstCause.{cause, first};
 ghost use Rattle.rules.specs.Refusals.{savedNumber};
 ghost use Rattle.rules.specs.Images.{numberBytes, field, fieldBytes, twosComplement, image, imageLength, saveCheck, savedInto};
 use rules::Board;
+use rules::IMAGE_LENGTH;
 use rules::Refusal;
 use rules::Saved;
-
-// The image's bytes: no shorter buffer takes it.
-const IMAGE_LENGTH: usize = 45;
 
 // A number at a place in so many bytes, its last byte first; the place after it.
 fn put_bytes(out: &mut [u8], at: usize, width: usize, n: u32) -> usize

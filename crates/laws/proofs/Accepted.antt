@@ -11,7 +11,7 @@ use lib.ListN.{length, getD}
 use borrow.Author.Tests.{leb-true, eqb-true}
 use Rattle.rules.specs.Tests.{all}
 use Rattle.rules.specs.Sensing.{lastCode}
-use Rattle.rules.specs.Settings.{Pair, pair, Row, row, rows, inRow, rising, checkFrom, linesOf, settingsCheck, isAccepted, settingsAccepted, limitAt, sheetLines}
+use Rattle.rules.specs.Settings.{Pair, pair, Row, row, rows, inRow, rising, checkFrom, linesOf, settingsCheck, settingsPassed, settingsAccepted, limitAt, sheetLines}
 use Rattle.rules.specs.Samples.{Slice, codeOf, frequency, permission, available, operatorLimit, unless, sampleCheck, sampleAccepted}
 use Rattle.rules.specs.Samples as samples
 use Rattle.rules.specs.declared.Settings.{Settings}
@@ -29,14 +29,14 @@ pub record LineRight (r : Row) (ps : List Pair) : Type 0 where
   pub rise : rising ps ≡ true
 
 line-right : (a b : Bool) (next : SettingsCheck) (n : ℕ)
-    → isAccepted (cond a (cond b next (SettingsCheck.Refused Rise n)) (SettingsCheck.Refused Range n)) ≡ true
-    → (a ≡ true) × (b ≡ true) × (isAccepted next ≡ true)
+    → settingsPassed (cond a (cond b next (SettingsCheck.Refused Rise n)) (SettingsCheck.Refused Range n)) ≡ true
+    → (a ≡ true) × (b ≡ true) × (settingsPassed next ≡ true)
 line-right true true next n e = (refl, refl, e)
 line-right true false next n e = absurd (false≢true e)
 line-right false b next n e = absurd (false≢true e)
 
 -- line i of accepted lines, by its place
-pub line-at : (n : ℕ) (rs : List Row) (ls : List (List Pair)) → isAccepted (checkFrom n rs ls) ≡ true
+pub line-at : (n : ℕ) (rs : List Row) (ls : List (List Pair)) → settingsPassed (checkFrom n rs ls) ≡ true
     → (i : ℕ) → i < length rs → i < length ls → LineRight (getD rs i (row 0 0 0 0)) (getD ls i [])
 unfolding checkFrom
 line-at n [] ls e i h k = absurd (not-suc-le-zero h)
@@ -128,8 +128,8 @@ pub record SampleRight (x : Slice) : Type 0 where
   pub available-top : available x ≤ 10000
   pub limit-top : operatorLimit x ≤ 10000
 
-passed : (t : Bool) (cause : Refusal) (next : SampleCheck) → samples.isAccepted (unless t cause next) ≡ true
-    → (t ≡ true) × (samples.isAccepted next ≡ true)
+passed : (t : Bool) (cause : Refusal) (next : SampleCheck) → samples.samplePassed (unless t cause next) ≡ true
+    → (t ≡ true) × (samples.samplePassed next ≡ true)
 passed true cause next e = (refl, e)
 passed false cause next e = absurd (false≢true e)
 

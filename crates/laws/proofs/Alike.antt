@@ -107,7 +107,7 @@ module _ (e f : Equipment) (a : Alike e f) where
   sample-alike : (b : Board) (st : Settings) (x : Slice) (k : SampleCheck) → sampleCheck x ≡ k → onSample e st x b k ≡ onSample f st x b k
   sample-alike b st x (SampleCheck.Refused cause) p = refl
   sample-alike b st x SampleCheck.Accepted p =
-      let r = sample-right x (ap samples.isAccepted p) in
+      let r = sample-right x (ap samples.samplePassed p) in
       rw (next-alike e f a x r st b, shown-alike e f a x r st (next f st x b))
 
   settings-alike : (b : Board) (st : Settings) (x : Slice) (k : SettingsCheck) → onSettings e st x b k ≡ onSettings f st x b k

@@ -10,7 +10,7 @@ use native.Mathlib.Omega.{arith}
 use lib.IntN.{pos}
 use borrow.Author.Tests.{lt-leb}
 use Rattle.rules.specs.Tests.{within}
-use Rattle.rules.specs.Settings.{settingsCheck, isAccepted, settingsAccepted, limitAt}
+use Rattle.rules.specs.Settings.{settingsCheck, settingsPassed, settingsAccepted, limitAt}
 use Rattle.rules.specs.Samples.{Slice, Equipment, sampleCheck, sampleAccepted}
 use Rattle.rules.specs.Samples as samples
 use Rattle.rules.specs.Counters.{Rule, Kind, kinds, limitRules, readyRule}
@@ -47,12 +47,12 @@ module _ (e : Equipment) (b : Board) (s : Settings) (x : Slice) where
   unfolding stepOf
   accepted-step p q = on-settings (settingsCheck s) p
     where
-      on-sample : (m : SampleCheck) → samples.isAccepted m ≡ true
+      on-sample : (m : SampleCheck) → samples.samplePassed m ≡ true
           → onSample e s x b m ≡ record { board = next e s x b; answer = Answer.Reported (reportOf (shown e s (next e s x b))) }
       on-sample SampleCheck.Accepted r = refl
       on-sample (SampleCheck.Refused cause) r = absurd (false≢true r)
 
-      on-settings : (k : SettingsCheck) → isAccepted k ≡ true
+      on-settings : (k : SettingsCheck) → settingsPassed k ≡ true
           → onSettings e s x b k ≡ record { board = next e s x b; answer = Answer.Reported (reportOf (shown e s (next e s x b))) }
       on-settings SettingsCheck.Accepted r = on-sample (sampleCheck x) q
       on-settings (SettingsCheck.Refused cause line) r = absurd (false≢true r)
@@ -62,11 +62,11 @@ module _ (e : Equipment) (b : Board) (s : Settings) (x : Slice) where
   unfolding stepOf
   refused-step p = on-settings (settingsCheck s) p
     where
-      on-sample : (m : SampleCheck) → samples.isAccepted m ≡ false → (cause : Refusal) × (onSample e s x b m ≡ turnedAway b cause)
+      on-sample : (m : SampleCheck) → samples.samplePassed m ≡ false → (cause : Refusal) × (onSample e s x b m ≡ turnedAway b cause)
       on-sample SampleCheck.Accepted r = absurd (true≢false r)
       on-sample (SampleCheck.Refused cause) r = (cause, refl)
 
-      on-settings : (k : SettingsCheck) → (isAccepted k && sampleAccepted x) ≡ false → (cause : Refusal) × (onSettings e s x b k ≡ turnedAway b cause)
+      on-settings : (k : SettingsCheck) → (settingsPassed k && sampleAccepted x) ≡ false → (cause : Refusal) × (onSettings e s x b k ≡ turnedAway b cause)
       on-settings SettingsCheck.Accepted r = on-sample (sampleCheck x) r
       on-settings (SettingsCheck.Refused cause line) r = (cause, refl)
 

@@ -11,7 +11,7 @@ use lib.Seq.{drop-at}
 use borrow.Author.Tests.{leb-true, leb-false, lt-ltb, le-ltb}
 use Rattle.rules.specs.Tests.{all, within}
 use Rattle.rules.specs.Sensing.{lastCode, voltage, sensed}
-use Rattle.rules.specs.Settings.{Pair, Row, rows, inRow, rising, checkFrom, linesOf, settingsCheck, isAccepted, settingsAccepted}
+use Rattle.rules.specs.Settings.{Pair, Row, rows, inRow, rising, checkFrom, linesOf, settingsCheck, settingsPassed, settingsAccepted}
 use Rattle.rules.specs.Refusals.{refusalNumber, settingsNumber, lineOf, sampleNumber, sensedNumber, answerNumber, savedNumber}
 use Rattle.rules.specs.Samples.{Slice, Equipment, codeOf, frequency, permission, available, operatorLimit, unless, sampleCheck}
 use Rattle.rules.specs.Records.{onSample, onSettings, stepOf}
@@ -85,7 +85,7 @@ settings-then st ds = lines-number 1 rows (linesOf st) ds
 pub accepted-none : (st : Settings) → settingsAccepted st ≡ true → (ds : List Cause) → first (settingsCauses st ++ ds) ≡ first ds
 accepted-none st ok ds = sym (settings-then st ds) ∙ by (settingsCheck st) ok
   where
-    by : (k : SettingsCheck) → isAccepted k ≡ true → thenNumber k (first ds) ≡ first ds
+    by : (k : SettingsCheck) → settingsPassed k ≡ true → thenNumber k (first ds) ≡ first ds
     by SettingsCheck.Accepted a = refl
     by (SettingsCheck.Refused c line) a = absurd (false≢true a)
 

@@ -35,8 +35,8 @@ use Rattle.claims.specs.Held.{RanOut, WaitFull}
 use Rattle.claims.specs.Sound.{Sound}
 use Rattle.claims.specs.FirstCause.{first, sampleCauses}
 use Rattle.claims.specs.TripAndReturn.{recordOf}
-use Rattle.claims.specs.Printed.{asSlice, sampleOn, causesOn, withSample, samplesAfter, samplesOn, lineAt, SampleAt, CauseAt, untilSpace, afterSpace, sameText, isReport}
-use Rattle.claims.specs.Printed.{statusWord, shownAfter, trippedWord, lastShown, joined, Printed}
+use Rattle.claims.specs.Printed.{asSlice, sampleOn, causesOn, withSample, samplesAfter, samplesOn, lineAt, AcceptedAt, CauseAt, untilSpace, afterSpace, sameText, isReport}
+use Rattle.claims.specs.Printed.{printedStatus, shownAfter, trippedWord, lastShown, joined, Printed}
 use Rattle.basics.proofs.Refusals.{number-bounds}
 use Rattle.laws.proofs.FirstCause.{accepted-none, sample-number, step-number}
 use Rattle.laws.proofs.Trace.{next-is}
@@ -86,11 +86,11 @@ number-back (suc (suc (suc (suc (suc (suc s)))))) h = absurd (omega arith)
 words-differ : (s t : ℕ) → s ≤ 5 → t ≤ 5 → wordOf s ≡ wordOf t → s ≡ t
 words-differ s t h g e = sym (number-back s h) ∙ ap numberOf e ∙ number-back t g
 
-report-word : (r : Report) → r .status ≤ 5 → statusWord (reportLine r) ≡ wordOf (r .status)
+report-word : (r : Report) → r .status ≤ 5 → printedStatus (reportLine r) ≡ wordOf (r .status)
 unfolding reportLine untilSpace afterSpace
 report-word r h = word-ends (r .status) h _
 
-pub words-tell : (r q : Report) → r .status ≤ 5 → q .status ≤ 5 → (statusWord (reportLine r) ≡ statusWord (reportLine q)) ↔ (r .status ≡ q .status)
+pub words-tell : (r q : Report) → r .status ≤ 5 → q .status ≤ 5 → (printedStatus (reportLine r) ≡ printedStatus (reportLine q)) ↔ (r .status ≡ q .status)
 words-tell r q h g = (
   (λ e. words-differ (r .status) (q .status) h g (sym (report-word r h) ∙ e ∙ report-word q g)),
   (λ e. report-word r h ∙ ap wordOf e ∙ sym (report-word q g)),
@@ -155,28 +155,28 @@ module _ (e : Equipment) (st : Settings) (ok : settingsAccepted st ≡ true) whe
       by false p = ap (λ (t : Stepped). t .board) (refused-step e (recordOf e st h) st x (refused-sample x p) .1)
 
   -- the word that is shown after it
-  shown-word : (x : Slice) (h : History) → statusWord (reportLine (reportOf (historyReport e st (x ∷ h)))) ≡ wordOf (historyStatus e st (x ∷ h))
+  shown-word : (x : Slice) (h : History) → printedStatus (reportLine (reportOf (historyReport e st (x ∷ h)))) ≡ wordOf (historyStatus e st (x ∷ h))
   unfolding reportOf historyReport
   shown-word x h = report-word (reportOf (historyReport e st (x ∷ h))) (status-top e st (x ∷ h))
 
   word-after : (h : History) (n : ℕ) (o : Option Slice)
-      → cond (isReport (said h n o)) (statusWord (said h n o)) (wordOf (historyStatus e st h)) ≡ wordOf (historyStatus e st (withSample h o))
-  word-after h n none = ap (λ (b : Bool). cond b (statusWord (refusedLine Sample n)) (wordOf (historyStatus e st h))) (refusal-none Sample n)
+      → cond (isReport (said h n o)) (printedStatus (said h n o)) (wordOf (historyStatus e st h)) ≡ wordOf (historyStatus e st (withSample h o))
+  word-after h n none = ap (λ (b : Bool). cond b (printedStatus (refusedLine Sample n)) (wordOf (historyStatus e st h))) (refusal-none Sample n)
   word-after h n (some x) = by (sampleAccepted x) refl
     where
       shows : List ℕ → List ℕ
-      shows t = cond (isReport t) (statusWord t) (wordOf (historyStatus e st h))
+      shows t = cond (isReport t) (printedStatus t) (wordOf (historyStatus e st h))
 
       by : (b : Bool) → sampleAccepted x ≡ b → shows (said h n (some x)) ≡ wordOf (historyStatus e st (cond b (x ∷ h) h))
       by true p =
           let r = reportOf (historyReport e st (x ∷ h)) in
           ap shows (said-report h n x p)
-          ∙ ap (λ (b : Bool). cond b (statusWord (reportLine r)) (wordOf (historyStatus e st h))) (report-report r)
+          ∙ ap (λ (b : Bool). cond b (printedStatus (reportLine r)) (wordOf (historyStatus e st h))) (report-report r)
           ∙ shown-word x h
       by false p =
           let w = refused-step e (recordOf e st h) st x (refused-sample x p) in
           ap (λ (t : Stepped). shows (answerLine n (t .answer))) (w .1)
-          ∙ ap (λ (b : Bool). cond b (statusWord (refusedLine (w .0) n)) (wordOf (historyStatus e st h))) (refusal-none (w .0) n)
+          ∙ ap (λ (b : Bool). cond b (printedStatus (refusedLine (w .0) n)) (wordOf (historyStatus e st h))) (refusal-none (w .0) n)
 
   -- ---- the lines one after the other
 
@@ -213,7 +213,7 @@ module _ (e : Equipment) (st : Settings) (ok : settingsAccepted st ≡ true) whe
   shown-are h n (l ∷ ls) (suc k) word p =
       let o = sampleOn l in
       shown-are (withSample h o) (suc n) ls k _
-      (ap (λ (w : List ℕ). cond (isReport (said h n o)) (statusWord (said h n o)) w) p ∙ word-after h n o)
+      (ap (λ (w : List ℕ). cond (isReport (said h n o)) (printedStatus (said h n o)) w) p ∙ word-after h n o)
 
   -- ---- the claims
 
@@ -229,23 +229,23 @@ module _ (e : Equipment) (st : Settings) (ok : settingsAccepted st ≡ true) whe
     unfolding historyStatus
     last-is k = shown-are [] 14 ls k trippedWord refl
 
-    reported : (k : ℕ) (x : Slice) → SampleAt ls k x → getD texts k [] ≡ reportLine (reportOf (historyReport e st (x ∷ before k)))
+    reported : (k : ℕ) (x : Slice) → AcceptedAt ls k x → getD texts k [] ≡ reportLine (reportOf (historyReport e st (x ∷ before k)))
     reported k x a =
         answer-at [] 14 ls k (a .line) ∙ ap (said (before k) (14 + k)) (a .sample) ∙ said-report (before k) (14 + k) x (a .accepted)
 
     refused : (k : ℕ) (why : Refusal) → CauseAt ls k why → getD texts k [] ≡ refusedLine why (14 + k)
     refused k why a = answer-at [] 14 ls k (a .line) ∙ said-refusal (before k) (14 + k) (sampleOn (lineAt ls k)) why (a .number)
 
-    either : (k : ℕ) → k < length ls → ((x : Slice) × SampleAt ls k x) ⊎ ((why : Refusal) × CauseAt ls k why)
+    either : (k : ℕ) → k < length ls → ((x : Slice) × AcceptedAt ls k x) ⊎ ((why : Refusal) × CauseAt ls k why)
     either k l = by (sampleOn (lineAt ls k)) refl
       where
         checked : (x : Slice) → sampleOn (lineAt ls k) ≡ some x → (c : SampleCheck) → sampleCheck x ≡ c
-            → ((y : Slice) × SampleAt ls k y) ⊎ ((why : Refusal) × CauseAt ls k why)
+            → ((y : Slice) × AcceptedAt ls k y) ⊎ ((why : Refusal) × CauseAt ls k why)
         checked x p SampleCheck.Accepted q = inl (x, record { line = l; sample = p; accepted = rw q })
         checked x p (SampleCheck.Refused why) q =
             inr (why, record { line = l; number = ap sampleNumber (sym q) ∙ sample-number x ∙ ap (λ (o : Option Slice). first (causesOn o)) (sym p) })
 
-        by : (o : Option Slice) → sampleOn (lineAt ls k) ≡ o → ((x : Slice) × SampleAt ls k x) ⊎ ((why : Refusal) × CauseAt ls k why)
+        by : (o : Option Slice) → sampleOn (lineAt ls k) ≡ o → ((x : Slice) × AcceptedAt ls k x) ⊎ ((why : Refusal) × CauseAt ls k why)
         by none p = inr (Sample, record { line = l; number = ap (λ (o : Option Slice). first (causesOn o)) (sym p) })
         by (some x) p = checked x p (sampleCheck x) refl
 
@@ -256,11 +256,11 @@ module _ (e : Equipment) (st : Settings) (ok : settingsAccepted st ≡ true) whe
     word-tripped : (h : History) → wordOf (historyStatus e st h) ≡ trippedWord → serving e st h ≡ false
     word-tripped h p = tripped-of e st h (words-differ (historyStatus e st h) 0 (status-top e st h) (omega arith) p)
 
-    word-now : (k : ℕ) (x : Slice) → SampleAt ls k x → statusWord (getD texts k []) ≡ wordOf (historyStatus e st (x ∷ before k))
-    word-now k x a = ap statusWord (reported k x a) ∙ shown-word x (before k)
+    word-now : (k : ℕ) (x : Slice) → AcceptedAt ls k x → printedStatus (getD texts k []) ≡ wordOf (historyStatus e st (x ∷ before k))
+    word-now k x a = ap printedStatus (reported k x a) ∙ shown-word x (before k)
 
-    trips : (k : ℕ) (x : Slice) → SampleAt ls k x → ¬ (lastShown (take k texts) ≡ trippedWord)
-        → (statusWord (getD texts k []) ≡ trippedWord) ↔ ((permitted x ≡ false) ⊎ RanOut e st (x ∷ before k))
+    trips : (k : ℕ) (x : Slice) → AcceptedAt ls k x → ¬ (lastShown (take k texts) ≡ trippedWord)
+        → (printedStatus (getD texts k []) ≡ trippedWord) ↔ ((permitted x ≡ false) ⊎ RanOut e st (x ∷ before k))
     trips k x a on =
         let serves = or-true (serving e st (before k)) (λ p. on (last-is k ∙ tripped-word (before k) p)) in
         let law = trip-law e st (before k) x serves in (
@@ -271,11 +271,11 @@ module _ (e : Equipment) (st : Settings) (ok : settingsAccepted st ≡ true) whe
     off-before : (k : ℕ) → lastShown (take k texts) ≡ trippedWord → serving e st (before k) ≡ false
     off-before k off = word-tripped (before k) (sym (last-is k) ∙ off)
 
-    on-now : (k : ℕ) (x : Slice) → SampleAt ls k x → ¬ (statusWord (getD texts k []) ≡ trippedWord) → serving e st (x ∷ before k) ≡ true
+    on-now : (k : ℕ) (x : Slice) → AcceptedAt ls k x → ¬ (printedStatus (getD texts k []) ≡ trippedWord) → serving e st (x ∷ before k) ≡ true
     on-now k x a other = or-true (serving e st (x ∷ before k)) (λ p. other (word-now k x a ∙ tripped-word (x ∷ before k) p))
 
-    returns : (k : ℕ) (x : Slice) → SampleAt ls k x → lastShown (take k texts) ≡ trippedWord
-        → (¬ (statusWord (getD texts k []) ≡ trippedWord)) ↔ WaitFull e st (x ∷ before k)
+    returns : (k : ℕ) (x : Slice) → AcceptedAt ls k x → lastShown (take k texts) ≡ trippedWord
+        → (¬ (printedStatus (getD texts k []) ≡ trippedWord)) ↔ WaitFull e st (x ∷ before k)
     returns k x a off =
         let law = return-law e st (before k) x (off-before k off) in (
           (λ other. law .0 (on-now k x a other)),

@@ -11,7 +11,7 @@ use lib.IntN.{ℤ, pos, natAbs}
 use lib.Signed.{nonNeg}
 use Rattle.rules.specs.declared.Point.{Point}
 use Rattle.rules.specs.Curves.{between, curveFrom, curve}
-use Rattle.power.specs.Points.{Powers, NonNegative}
+use Rattle.power.specs.Points.{EachPower, NonNegative}
 use Rattle.power.proofs.Shares.{between-small, between-nonNeg}
 
 -- ---- what holds of both powers holds between them
@@ -21,19 +21,19 @@ module _ (P : ℤ → Type 0) (way : (a b : Point) (v : ℕ) → a .volts ≤ v 
   chosen true x y f g = f refl
   chosen false x y f g = g refl
 
-  keeps-from : (a : Point) (rest : List Point) (v : ℕ) → P (a .power) → Powers P rest → P (curveFrom a rest v)
+  keeps-from : (a : Point) (rest : List Point) (v : ℕ) → P (a .power) → EachPower P rest → P (curveFrom a rest v)
   unfolding curveFrom
   keeps-from a [] v p ps = p
   keeps-from a (b ∷ rest) v p ps =
       chosen (leb (b .volts) v) _ _ (λ past. keeps-from b rest v (ps .0) (ps .1))
       (λ below. chosen (leb (a .volts) v) _ _ (λ on. way a b v (leb-true (a .volts) v on) (leb-false (b .volts) v below) p (ps .0)) (λ before. p))
 
-  keeps : (points : List Point) (v : ℕ) → P (pos 0) → Powers P points → P (curve points v)
+  keeps : (points : List Point) (v : ℕ) → P (pos 0) → EachPower P points → P (curve points v)
   unfolding curve
   keeps [] v none ps = none
   keeps (a ∷ rest) v none ps = keeps-from a rest v (ps .0) (ps .1)
 
-pub curve-small : (top : ℕ) (points : List Point) (v : ℕ) → Powers (λ z. natAbs z ≤ top) points → natAbs (curve points v) ≤ top
+pub curve-small : (top : ℕ) (points : List Point) (v : ℕ) → EachPower (λ z. natAbs z ≤ top) points → natAbs (curve points v) ≤ top
 curve-small top points v small =
     keeps (λ z. natAbs z ≤ top)
     (λ a b v from to left right. between-small top (a .power) (b .power) (v - a .volts) (b .volts - a .volts) (omega arith) left right)

@@ -7,7 +7,7 @@ use native.Mathlib.Omega.{arith}
 use lib.IntN.{pos, natAbs}
 use lib.ListN.{length, getD, length-map}
 use Rattle.rules.specs.declared.Point.{Point}
-use Rattle.power.specs.Points.{Allowed, RisesFrom, Rises, Powers}
+use Rattle.power.specs.Points.{Allowed, RisesFrom, Rises, EachPower}
 
 abbrev pub point-at : List Point → ℕ → Point
 point-at l i = getD l i (record { volts = 0; power = pos 0 })
@@ -36,12 +36,12 @@ head-allowed : (a : Point) (rest : List Point) → RisesFrom a rest → Allowed 
 head-allowed a [] r = r
 head-allowed a (b ∷ rest) r = r .0
 
-small-from : (a : Point) (rest : List Point) → RisesFrom a rest → Powers (λ z. natAbs z ≤ 10000) (a ∷ rest)
+small-from : (a : Point) (rest : List Point) → RisesFrom a rest → EachPower (λ z. natAbs z ≤ 10000) (a ∷ rest)
 small-from a [] r = (r .power-top, tt)
 small-from a (b ∷ rest) r = (r .0 .power-top, small-from b rest (r .2))
 
 -- powers of rising points are within the sheet's
-pub powers-small : (points : List Point) → Rises points → Powers (λ z. natAbs z ≤ 10000) points
+pub powers-small : (points : List Point) → Rises points → EachPower (λ z. natAbs z ≤ 10000) points
 powers-small [] r = tt
 powers-small (a ∷ rest) r = small-from a rest r
 

@@ -23,13 +23,13 @@ Rises [] = Unit {0}
 Rises (a ∷ rest) = RisesFrom a rest
 
 -- P holds of every power
-abbrev pub Powers : (ℤ → Type 0) → List Point → Type 0
-Powers P [] = Unit {0}
-Powers P (a ∷ rest) = P (a .power) × Powers P rest
+abbrev pub EachPower : (ℤ → Type 0) → List Point → Type 0
+EachPower P [] = Unit {0}
+EachPower P (a ∷ rest) = P (a .power) × EachPower P rest
 
 -- no power is negative
 abbrev pub NonNegative : List Point → Type 0
-NonNegative points = Powers (λ z. T (nonNeg z)) points
+NonNegative points = EachPower (λ z. T (nonNeg z)) points
 
 -- two powers of a sheet's size, a gap between their voltages that is not 0, and a distance inside it
 pub record Inside (left right : ℤ) (distance gap : ℕ) : Type 0 where

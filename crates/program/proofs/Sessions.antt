@@ -19,7 +19,7 @@ use Rattle.program.specs.States.{Fit, start, isDone, stopped, sensible, 
 use Rattle.program.specs.Saying.{Said, resume}
 use Rattle.program.specs.Responses.{lineRoom, longest, budget, respondOf}
 use Rattle.program.specs.declared.State.{State}
-use Rattle.program.specs.Sessions.{Session, Delivery, opened, delivered, during, ending, joined, cut, Roomy, TranscriptLaw}
+use Rattle.program.specs.Sessions.{Session, Delivery, opened, delivered, during, ending, inputOf, cut, Roomy, TranscriptLaw}
 use Rattle.program.proofs.Fitting.{sensible-fit, fit-sensible}
 use Rattle.program.proofs.Resuming.{done-resume, resume-none}
 use Rattle.program.proofs.Ending.{doneAfter, done-unfed}
@@ -73,11 +73,11 @@ module _ (e : Equipment) where
             ∙ call-says k c false (g .fit) more (λ p. absurd (false≢true p));
       }
 
-  good-during : (k : Session) (input : List ℕ) (cs : List Delivery) → Good k input → Good (during e k cs) (input ++ joined cs)
-  unfolding during joined
+  good-during : (k : Session) (input : List ℕ) (cs : List Delivery) → Good k input → Good (during e k cs) (input ++ inputOf cs)
+  unfolding during inputOf
   good-during k input [] g = subst (Good k) (sym (append-nil input)) g
   good-during k input (c ∷ cs) g =
-      subst (Good (during e (delivered e false k c) cs)) (append-assoc input (c .bytes) (joined cs))
+      subst (Good (during e (delivered e false k c) cs)) (append-assoc input (c .bytes) (inputOf cs))
       (good-during (delivered e false k c) (input ++ c .bytes) cs (good-delivered k input c g))
 
   -- ---- once the input has ended
@@ -174,11 +174,11 @@ module _ (e : Equipment) where
               ∙ sym (append-assoc (k .text) (respondOf e (k .state) whole last (c .size) .text) (resume e (then .state) t));
         }
 
-  took-during : (k : Session) (input : List ℕ) (cs : List Delivery) → Took k input → Took (during e k cs) (input ++ joined cs)
-  unfolding during joined
+  took-during : (k : Session) (input : List ℕ) (cs : List Delivery) → Took k input → Took (during e k cs) (input ++ inputOf cs)
+  unfolding during inputOf
   took-during k input [] g = subst (Took k) (sym (append-nil input)) g
   took-during k input (c ∷ cs) g =
-      subst (Took (during e (delivered e false k c) cs)) (append-assoc input (c .bytes) (joined cs))
+      subst (Took (during e (delivered e false k c) cs)) (append-assoc input (c .bytes) (inputOf cs))
       (took-during (delivered e false k c) (input ++ c .bytes) cs (took-delivered k input c false g))
 
   took-ending : (k : Session) (input : List ℕ) (sizes : List ℕ) → Took k input → Took (ending e k sizes) input
@@ -247,23 +247,23 @@ module _ (e : Equipment) where
   abbrev after : List Delivery → Session
   after cs = during e opened cs
 
-  good : (cs : List Delivery) → Good (after cs) (joined cs)
+  good : (cs : List Delivery) → Good (after cs) (inputOf cs)
   good cs = good-during opened [] cs good-opened
 
-  at-end : (cs : List Delivery) (sizes : List ℕ) → Ended (ending e (after cs) sizes) (joined cs)
-  at-end cs sizes = ended-ending (after cs) (joined cs) sizes (good-ended (after cs) (joined cs) (good cs))
+  at-end : (cs : List Delivery) (sizes : List ℕ) → Ended (ending e (after cs) sizes) (inputOf cs)
+  at-end cs sizes = ended-ending (after cs) (inputOf cs) sizes (good-ended (after cs) (inputOf cs) (good cs))
 
   -- as many bytes came as were taken and are left
   pub taken-and-left : (cs : List Delivery) (sizes : List ℕ)
-      → length (joined cs) ≡ ending e (after cs) sizes .state .taken + length (ending e (after cs) sizes .left)
+      → length (inputOf cs) ≡ ending e (after cs) sizes .state .taken + length (ending e (after cs) sizes .left)
   taken-and-left cs sizes =
-      let t = took-ending (after cs) (joined cs) sizes (took-during opened [] cs took-opened) in
+      let t = took-ending (after cs) (inputOf cs) sizes (took-during opened [] cs took-opened) in
       ap length (t .splits) ∙ length-append (t .bytes) (ending e (after cs) sizes .left) ∙ ap (λ (n : ℕ). n + length (ending e (after cs) sizes .left)) (t .counts)
 
   -- what was said begins the transcript of what came, once the input has ended
   pub begins-ended : (cs : List Delivery) (sizes : List ℕ)
-      → transcript e (joined cs)
-      ≡ ending e (after cs) sizes .text ++ drop (length (ending e (after cs) sizes .text)) (transcript e (joined cs))
+      → transcript e (inputOf cs)
+      ≡ ending e (after cs) sizes .text ++ drop (length (ending e (after cs) sizes .text)) (transcript e (inputOf cs))
   begins-ended cs sizes =
       let k = ending e (after cs) sizes in
       let says = at-end cs sizes .says in
@@ -310,8 +310,8 @@ module _ (e : Equipment) where
         handles = λ q block last size fit going room.
             (left-unfed e q block last size (sensible-fit q fit) going room, left-short e q block last size (sensible-fit q fit) going room);
         answers = λ q block last size fit samples whole left. answers-taken e q block last size (sensible-fit q fit) samples whole left;
-        written = λ cs sizes p whole. took-text (ending e (after cs) sizes) (joined cs)
-            (took-ending (after cs) (joined cs) sizes (took-during opened [] cs took-opened)) p whole;
+        written = λ cs sizes p whole. took-text (ending e (after cs) sizes) (inputOf cs)
+            (took-ending (after cs) (inputOf cs) sizes (took-during opened [] cs took-opened)) p whole;
         refused = λ cs cause n c f left. ends-known cs cause n c f left;
         begins = λ cs more. good cs .says more
             ∙ ap (λ (l : List ℕ). after cs .text ++ l)

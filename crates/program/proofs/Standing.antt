@@ -11,25 +11,25 @@ use Rattle.rules.specs.Transcripts.{transcript}
 use Rattle.program.specs.States.{Fit, isDone, sensible}
 use Rattle.program.specs.Saying.{Said}
 use Rattle.program.specs.Responses.{respondOf}
-use Rattle.program.specs.Sessions.{Session, Delivery, opened, delivered, during, ending, joined}
-use Rattle.program.specs.Standing.{Reached, Standing, StandingLaw, again, called}
+use Rattle.program.specs.Sessions.{Session, Delivery, opened, delivered, during, ending, inputOf}
+use Rattle.program.specs.Standing.{Reached, Standing, StandingLaw, again, calledAgain}
 use Rattle.program.specs.declared.State.{State}
 use Rattle.program.proofs.Fitting.{sensible-fit}
 use Rattle.program.proofs.Responding.{no-room}
 use Rattle.program.proofs.Sessions.{taken-and-left, begins-ended, transcript-law}
 
-joined-append : (cs ds : List Delivery) → joined (cs ++ ds) ≡ joined cs ++ joined ds
-unfolding joined
-joined-append [] ds = refl
-joined-append (c ∷ cs) ds =
-    ap (λ (l : List ℕ). c .bytes ++ l) (joined-append cs ds) ∙ sym (append-assoc (c .bytes) (joined cs) (joined ds))
+input-append : (cs ds : List Delivery) → inputOf (cs ++ ds) ≡ inputOf cs ++ inputOf ds
+unfolding inputOf
+input-append [] ds = refl
+input-append (c ∷ cs) ds =
+    ap (λ (l : List ℕ). c .bytes ++ l) (input-append cs ds) ∙ sym (append-assoc (c .bytes) (inputOf cs) (inputOf ds))
 
-joined-one : (c : Delivery) → joined (c ∷ []) ≡ c .bytes
-unfolding joined
-joined-one c = append-nil (c .bytes)
+input-one : (c : Delivery) → inputOf (c ∷ []) ≡ c .bytes
+unfolding inputOf
+input-one c = append-nil (c .bytes)
 
-joined-then : (cs : List Delivery) (c : Delivery) → joined (cs ++ (c ∷ [])) ≡ joined cs ++ c .bytes
-joined-then cs c = joined-append cs (c ∷ []) ∙ ap (λ (l : List ℕ). joined cs ++ l) (joined-one c)
+input-then : (cs : List Delivery) (c : Delivery) → inputOf (cs ++ (c ∷ [])) ≡ inputOf cs ++ c .bytes
+input-then cs c = input-append cs (c ∷ []) ∙ ap (λ (l : List ℕ). inputOf cs ++ l) (input-one c)
 
 module _ (e : Equipment) where
   during-then : (k : Session) (cs : List Delivery) (c : Delivery) → during e k (cs ++ (c ∷ [])) ≡ delivered e false (during e k cs) c
@@ -47,7 +47,7 @@ module _ (e : Equipment) where
   ending-none k = refl
 
   pub reached-opened : Reached e [] false opened
-  unfolding during ending joined
+  unfolding during ending inputOf
   reached-opened = record { deliveries = []; sizes = []; came = refl; coming = λ p. refl; is = refl }
 
   module _ {input : List ℕ} {ended : Bool} {k : Session} (r : Reached e input ended k) where
@@ -84,10 +84,10 @@ module _ (e : Equipment) where
       by : (b : Bool) → Reached e input b k → (b ≡ true → more ≡ []) → Begins (input ++ more) k
       by false r none =
           subst (λ (l : List ℕ). Begins (l ++ more) k) (r .came)
-          (subst (Begins (joined (r .deliveries) ++ more)) (reached-during r) (transcript-law e .begins (r .deliveries) more))
+          (subst (Begins (inputOf (r .deliveries) ++ more)) (reached-during r) (transcript-law e .begins (r .deliveries) more))
       by true r none =
           let same : input ≡ input ++ more = sym (ap (λ (l : List ℕ). input ++ l) (none refl) ∙ append-nil input) in
-          subst (λ (l : List ℕ). Begins l k) (r .came ∙ same) (subst (Begins (joined (r .deliveries))) (r .is) (begins-ended e (r .deliveries) (r .sizes)))
+          subst (λ (l : List ℕ). Begins l k) (r .came ∙ same) (subst (Begins (inputOf (r .deliveries))) (r .is) (begins-ended e (r .deliveries) (r .sizes)))
 
   -- ---- bytes come: a call whose buffer has no room for a line
 
@@ -108,7 +108,7 @@ module _ (e : Equipment) where
       record {
         deliveries = cs;
         sizes = [];
-        came = joined-then (r .deliveries) c ∙ ap (λ (l : List ℕ). l ++ bytes) (r .came);
+        came = input-then (r .deliveries) c ∙ ap (λ (l : List ℕ). l ++ bytes) (r .came);
         coming = λ p. refl;
         is = ending-none (during e opened cs)
             ∙ during-then opened (r .deliveries) c
@@ -124,7 +124,7 @@ module _ (e : Equipment) where
       record {
         deliveries = cs;
         sizes = [];
-        came = joined-then (r .deliveries) (again size) ∙ append-nil (joined (r .deliveries)) ∙ r .came;
+        came = input-then (r .deliveries) (again size) ∙ append-nil (inputOf (r .deliveries)) ∙ r .came;
         coming = λ p. refl;
         is = ending-none (during e opened cs)
             ∙ during-then opened (r .deliveries) (again size)
@@ -139,23 +139,23 @@ module _ (e : Equipment) where
         is = ending-then (during e opened (r .deliveries)) (r .sizes) size ∙ ap (λ (k : Session). delivered e true k (again size)) (r .is);
       }
 
-  reached-calls : {input : List ℕ} {ended : Bool} {k : Session} (size n : ℕ) → Reached e input ended k → Reached e input ended (called e ended size n k)
-  unfolding called
+  reached-calls : {input : List ℕ} {ended : Bool} {k : Session} (size n : ℕ) → Reached e input ended k → Reached e input ended (calledAgain e ended size n k)
+  unfolding calledAgain
   reached-calls size zero r = r
   reached-calls {ended = ended} size (suc n) r = reached-again size ended (reached-calls size n r)
 
   -- what was said before stands in front of what further calls say
   called-after : (last : Bool) (size n : ℕ) (q : State) (left text : List ℕ)
-      → called e last size n (record { state = q; left = left; text = text })
+      → calledAgain e last size n (record { state = q; left = left; text = text })
       ≡ record {
-        state = called e last size n (record { state = q; left = left; text = [] }) .state;
-        left = called e last size n (record { state = q; left = left; text = [] }) .left;
-        text = text ++ called e last size n (record { state = q; left = left; text = [] }) .text;
+        state = calledAgain e last size n (record { state = q; left = left; text = [] }) .state;
+        left = calledAgain e last size n (record { state = q; left = left; text = [] }) .left;
+        text = text ++ calledAgain e last size n (record { state = q; left = left; text = [] }) .text;
       }
-  unfolding called
+  unfolding calledAgain
   called-after last size zero q left text = rw (append-nil text)
   called-after last size (suc n) q left text =
-      let c = called e last size n (record { state = q; left = left; text = [] }) in
+      let c = calledAgain e last size n (record { state = q; left = left; text = [] }) in
       let d = delivered e last c (again size) in
       ap (λ (k : Session). delivered e last k (again size)) (called-after last size n q left text)
       ∙ ap (λ (t : List ℕ). record { state = d .state; left = d .left; text = t })
@@ -163,7 +163,7 @@ module _ (e : Equipment) where
 
   pub reached-called : {input : List ℕ} {last : Bool} {q : State} {left text : List ℕ} (size n : ℕ) (k : Session)
       → Reached e input last (record { state = q; left = left; text = text })
-      → called e last size n (record { state = q; left = left; text = [] }) ≡ k
+      → calledAgain e last size n (record { state = q; left = left; text = [] }) ≡ k
       → Reached e input last (record { state = k .state; left = k .left; text = text ++ k .text })
   reached-called {input} {last} {q} {left} {text} size n k r is =
       subst (Reached e input last)
@@ -171,7 +171,7 @@ module _ (e : Equipment) where
       (reached-calls size n r)
 
   pub standing-called : {last : Bool} {q : State} {left : List ℕ} {said : ℕ} (size n : ℕ) (k : Session)
-      → Standing e last q left said → called e last size n (record { state = q; left = left; text = [] }) ≡ k
+      → Standing e last q left said → calledAgain e last size n (record { state = q; left = left; text = [] }) ≡ k
       → Standing e last (k .state) (k .left) (said + length (k .text))
   standing-called size n k s is =
       record {

@@ -51,13 +51,13 @@ ending e k [] = k
 ending e k (size ∷ sizes) = ending e (delivered e true k (record { bytes = []; size = size })) sizes
 
 -- the input that the calls were given
-unfoldable pub joined : List Delivery → List ℕ
-joined [] = []
-joined (c ∷ cs) = c .bytes ++ joined cs
+unfoldable pub inputOf : List Delivery → List ℕ
+inputOf [] = []
+inputOf (c ∷ cs) = c .bytes ++ inputOf cs
 
 -- its first 10^12 bytes
 abbrev pub cut : List Delivery → List ℕ
-cut cs = take inputEnd (joined cs)
+cut cs = take inputEnd (inputOf cs)
 
 -- the bytes of a block that a call takes, and those that it leaves
 abbrev pub takenOf : Equipment → State → List ℕ → Bool → ℕ → List ℕ
@@ -74,7 +74,7 @@ Roomy (size ∷ sizes) = (lineRoom ≤ size) × Roomy sizes
 -- however an input is cut, and whatever buffers are lent: once all is done, what was written is the input's transcript
 pub record TranscriptLaw (e : Equipment) : Type 0 where
   pub done : (cs : List Delivery) (sizes : List ℕ) → isDone (ending e (during e opened cs) sizes .state) ≡ true
-      → ending e (during e opened cs) sizes .text ≡ transcript e (joined cs)
+      → ending e (during e opened cs) sizes .text ≡ transcript e (inputOf cs)
   -- all is done after as many calls with room for a line as there are bytes left, and one
   pub ends : (cs : List Delivery) (sizes : List ℕ) → Roomy sizes → length (during e opened cs .left) < length sizes
       → isDone (ending e (during e opened cs) sizes .state) ≡ true
@@ -111,13 +111,13 @@ pub record TranscriptLaw (e : Equipment) : Type 0 where
   -- taken. So the call that takes the sheet's last line answers the samples that it takes after it, then and there, too
   pub written : (cs : List Delivery) (sizes : List ℕ) → 1 ≤ ending e (during e opened cs) sizes .state .stage
       → ending e (during e opened cs) sizes .state .overlong ≡ false
-      → ending e (during e opened cs) sizes .text ≡ transcript e (take (ending e (during e opened cs) sizes .state .taken) (joined cs))
+      → ending e (during e opened cs) sizes .text ≡ transcript e (take (ending e (during e opened cs) sizes .state .taken) (inputOf cs))
   -- a refused sheet ends all as soon as its line is known: the refused line has its line feed, and no whole line is left
   pub refused : (cs : List Delivery) (cause : Refusal) (n : ℕ) → readSheet (cut cs) .check ≡ SettingsCheck.Refused cause n
       → hasFeed (drop (readSheet (cut cs) .start) (cut cs)) ≡ true → hasFeed (during e opened cs .left) ≡ false
       → isDone (during e opened cs .state) ≡ true
   -- before the input's end, what was written begins its transcript, whatever comes
   pub begins : (cs : List Delivery) (more : List ℕ)
-      → transcript e (joined cs ++ more) ≡ during e opened cs .text ++ drop (length (during e opened cs .text)) (transcript e (joined cs ++ more))
+      → transcript e (inputOf cs ++ more) ≡ during e opened cs .text ++ drop (length (during e opened cs .text)) (transcript e (inputOf cs ++ more))
   -- all done before the input's end: nothing that comes would add to it
-  pub early : (cs : List Delivery) (more : List ℕ) → isDone (during e opened cs .state) ≡ true → transcript e (joined cs ++ more) ≡ during e opened cs .text
+  pub early : (cs : List Delivery) (more : List ℕ) → isDone (during e opened cs .state) ≡ true → transcript e (inputOf cs ++ more) ≡ during e opened cs .text

@@ -8,7 +8,7 @@ use lib.ListN.{length, drop}
 use Rattle.rules.specs.Samples.{Equipment}
 use Rattle.rules.specs.Transcripts.{transcript}
 use Rattle.program.specs.States.{isDone}
-use Rattle.program.specs.Sessions.{Session, Delivery, opened, delivered, during, ending, joined}
+use Rattle.program.specs.Sessions.{Session, Delivery, opened, delivered, during, ending, inputOf}
 use Rattle.program.specs.declared.State.{State}
 
 -- calls from `opened` on lead to the session k: the bytes that came before them are `input`, and no call was told that the input has
@@ -16,7 +16,7 @@ use Rattle.program.specs.declared.State.{State}
 pub record Reached (e : Equipment) (input : List ℕ) (ended : Bool) (k : Session) : Type 0 where
   pub deliveries : List Delivery
   pub sizes : List ℕ
-  pub came : joined deliveries ≡ input
+  pub came : inputOf deliveries ≡ input
   pub coming : ended ≡ false → sizes ≡ []
   pub is : ending e (during e opened deliveries) sizes ≡ k
 
@@ -44,6 +44,6 @@ abbrev pub again : ℕ → Delivery
 again size = record { bytes = []; size = size }
 
 -- n such calls, one after the other, each with a buffer of this size
-unfoldable pub called : Equipment → Bool → ℕ → ℕ → Session → Session
-called e last size zero k = k
-called e last size (suc n) k = delivered e last (called e last size n k) (again size)
+unfoldable pub calledAgain : Equipment → Bool → ℕ → ℕ → Session → Session
+calledAgain e last size zero k = k
+calledAgain e last size (suc n) k = delivered e last (calledAgain e last size n k) (again size)

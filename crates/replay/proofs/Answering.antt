@@ -9,7 +9,7 @@ use lib.Dec.{ltb}
 use lib.ListN.{length}
 use borrow.Author.Tests.{le-leb, lt-leb}
 use Rattle.rules.specs.Tests.{all}
-use Rattle.rules.specs.Settings.{Pair, Row, rows, inRow, rising, linesOf, settingsCheck, isAccepted, settingsAccepted}
+use Rattle.rules.specs.Settings.{Pair, Row, rows, inRow, rising, linesOf, settingsCheck, settingsPassed, settingsAccepted}
 use Rattle.rules.specs.Regions.{ourEquipment}
 use Rattle.rules.specs.Records.{fresh}
 use Rattle.rules.specs.Refusals.{refusalNumber, settingsNumber, savedNumber}
@@ -22,7 +22,7 @@ use Rattle.claims.specs.Calls.{freshReport, acceptedSamples}
 use Rattle.claims.specs.FirstCause.{Cause, cause, first, lineCauses, settingsCauses}
 use Rattle.basics.proofs.Refusals.{number-bounds}
 use Rattle.laws.proofs.FirstCause.{refuses-rightly}
-use Rattle.replay.specs.Replays.{callsOf, runOver, ran, replayNumber, unlessRefused, turnedAway, replayed, replayedInto}
+use Rattle.replay.specs.Replays.{callsOf, runOver, ran, replayNumber, unlessRefused, replayRefused, replayed, replayedInto}
 use Rattle.replay.specs.declared.Ran.{Ran}
 use Rattle.replay.specs.declared.Replayed.{Replayed}
 
@@ -38,9 +38,9 @@ module _ (st : Settings) (samples buffer : List ℕ) where
   -- ---- its number
 
   pub by-settings : (check : SettingsCheck) → settingsCheck st ≡ check
-      → replayNumber st buffer ≡ cond (isAccepted check) (savedNumber (saveCheck buffer)) (settingsNumber check)
+      → replayNumber st buffer ≡ cond (settingsPassed check) (savedNumber (saveCheck buffer)) (settingsNumber check)
   unfolding replayNumber
-  by-settings check told = ap (λ (k : SettingsCheck). cond (isAccepted k) (savedNumber (saveCheck buffer)) (settingsNumber k)) told
+  by-settings check told = ap (λ (k : SettingsCheck). cond (settingsPassed k) (savedNumber (saveCheck buffer)) (settingsNumber k)) told
 
   saved-9 : length buffer < imageLength → savedNumber (saveCheck buffer) ≡ refusalNumber Buffer
   unfolding saveCheck
@@ -57,7 +57,7 @@ module _ (st : Settings) (samples buffer : List ℕ) where
   -- ---- where it is refused
 
   pub away : (cause : Refusal) → replayNumber st buffer ≡ refusalNumber cause
-      → (turnedAway cause ≡ replayed st samples buffer) × (buffer ≡ replayedInto st samples buffer)
+      → (replayRefused cause ≡ replayed st samples buffer) × (buffer ≡ replayedInto st samples buffer)
   unfolding replayed replayedInto
   away cause e =
       let some : 0 < replayNumber st buffer = omega (arith, e, number-bounds cause .0) in
@@ -73,11 +73,11 @@ module _ (st : Settings) (samples buffer : List ℕ) where
       by (suc n) m p h = ap (λ (k : ℕ). record { number = k; accepted = 0; report = freshReport }) (sym p)
 
   pub by-2-or-3 : (cause : Refusal) (line : ℕ) → settingsCheck st ≡ SettingsCheck.Refused cause line
-      → (turnedAway cause ≡ replayed st samples buffer) × (buffer ≡ replayedInto st samples buffer)
+      → (replayRefused cause ≡ replayed st samples buffer) × (buffer ≡ replayedInto st samples buffer)
   by-2-or-3 cause line told = away cause (by-settings (SettingsCheck.Refused cause line) told)
 
   pub by-9 : settingsCheck st ≡ SettingsCheck.Accepted → length buffer < imageLength
-      → (turnedAway Buffer ≡ replayed st samples buffer) × (buffer ≡ replayedInto st samples buffer)
+      → (replayRefused Buffer ≡ replayed st samples buffer) × (buffer ≡ replayedInto st samples buffer)
   by-9 told short = away Buffer (by-settings SettingsCheck.Accepted told ∙ saved-9 short)
 
   -- ---- where it is not
@@ -106,7 +106,7 @@ lines-then (r ∷ rs) (ps ∷ ls) ds = by (not (all (map (inRow r) ps))) (not (r
     by false false e = e
 
 then-saved : (st : Settings) (buffer : List ℕ) (check : SettingsCheck)
-    → cond (isAccepted check) (savedNumber (saveCheck buffer)) (settingsNumber check)
+    → cond (settingsPassed check) (savedNumber (saveCheck buffer)) (settingsNumber check)
     ≡ unlessRefused (settingsNumber check) (savedNumber (saveCheck buffer)) (settingsNumber check)
 then-saved st buffer SettingsCheck.Accepted = refl
 then-saved st buffer (SettingsCheck.Refused c line) = sym (kept (refusalNumber c) (savedNumber (saveCheck buffer)) (refusalNumber c) (number-bounds c .0))

@@ -7,7 +7,7 @@ use mathlib.Core.List.{List, [], _∷_, _++_}
 use Prim.Native.Nat.{ℕ, zero, suc, _/_, _≤_, _<_}
 use native.Mathlib.Omega.{arith}
 use lib.ListN.{length, take, drop}
-use Rattle.rules.specs.Settings.{settingsCheck, isAccepted, settingsAccepted}
+use Rattle.rules.specs.Settings.{settingsCheck, settingsPassed, settingsAccepted}
 use Rattle.rules.specs.Samples.{Slice}
 use Rattle.rules.specs.Regions.{ourEquipment}
 use Rattle.rules.specs.Reports.{reportOf}
@@ -19,6 +19,7 @@ use Rattle.rules.specs.declared.SettingsCheck.{SettingsCheck}
 use Rattle.claims.specs.Calls.{Call, Program, Run, ruledBy, called, calledAll, runOf}
 use Rattle.claims.specs.Sound.{Sound}
 use Rattle.claims.specs.TripAndReturn.{Next, TripAndReturn}
+use Rattle.claims.specs.Printed.{joined}
 use Rattle.claims.specs.TwoHistories.{AllAccepted, Agree}
 use Rattle.basics.proofs.Refusals.{number-bounds}
 use Rattle.laws.proofs.Accepted.{sample-right}
@@ -28,7 +29,7 @@ use Rattle.laws.proofs.Demand2.{demand2}
 use Rattle.laws.proofs.Demand3.{demand3}
 use Rattle.laws.proofs.Bits.{reports-items}
 use Rattle.replay.specs.Replays.{groupLength, callOf, callsOf, runOver, replayNumber, unlessRefused, replayed, replayedInto}
-use Rattle.replay.specs.Demanded.{historyOf, Lends, Whole, OneMore, joined, ReplaysRightly}
+use Rattle.replay.specs.Demanded.{historyOf, Lends, Whole, OneMore, ReplaysRightly}
 use Rattle.replay.specs.declared.Replayed.{Replayed}
 use Rattle.replay.proofs.Groups.{calls-under, calls-more}
 use Rattle.replay.proofs.Runs.{history-run}
@@ -96,7 +97,7 @@ module _ (sound : Sound ourEquipment) where
   unfolding replayedInto
   rest-kept st samples buffer = by (replayNumber st buffer) refl
     where
-      accepted : (check : SettingsCheck) → settingsCheck st ≡ check → replayNumber st buffer ≡ 0 → isAccepted check ≡ true
+      accepted : (check : SettingsCheck) → settingsCheck st ≡ check → replayNumber st buffer ≡ 0 → settingsPassed check ≡ true
       accepted SettingsCheck.Accepted told e = refl
       accepted (SettingsCheck.Refused c line) told e =
           absurd (omega (arith, e, by-settings st samples buffer (SettingsCheck.Refused c line) told, number-bounds c .0))

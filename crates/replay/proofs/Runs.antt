@@ -11,10 +11,11 @@ use Rattle.rules.specs.Samples.{Slice}
 use Rattle.rules.specs.History.{History, followedBy}
 use Rattle.rules.specs.declared.Settings.{Settings}
 use Rattle.claims.specs.Calls.{Call, acceptedOne, acceptedAfter, acceptedSamples}
+use Rattle.claims.specs.Printed.{joined}
 use Rattle.claims.specs.TwoHistories.{AllAccepted}
 use Rattle.laws.proofs.Accepted.{sample-right}
 use Rattle.replay.specs.Replays.{groupLength, callOf, callsOf}
-use Rattle.replay.specs.Demanded.{historyOf, Whole, OneMore, joined}
+use Rattle.replay.specs.Demanded.{historyOf, Whole, OneMore}
 use Rattle.replay.proofs.Groups.{calls-more}
 
 accepted-more : (cs : List Call) (c : Call) (h : History) → acceptedAfter h (cs ++ (c ∷ [])) ≡ acceptedOne (acceptedAfter h cs) c

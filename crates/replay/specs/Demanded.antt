@@ -19,6 +19,7 @@ use Rattle.rules.specs.declared.Region.the-variants.{Continuous}
 use Rattle.claims.specs.Calls.{acceptedSamples}
 use Rattle.claims.specs.Held.{RanOut, WaitFull}
 use Rattle.claims.specs.FirstCause.{cause, first, settingsCauses}
+use Rattle.claims.specs.Printed.{joined}
 use Rattle.claims.specs.TwoHistories.{AllAccepted, Agree}
 use Rattle.replay.specs.Replays.{groupLength, callsOf}
 use Rattle.replay.specs.declared.Replayed.{Replayed}
@@ -50,11 +51,6 @@ Whole samples = length samples % groupLength ≡ 0
 pub record OneMore (samples : List ℕ) (x : Slice) : Type 0 where
   pub whole : Whole samples
   pub accepted : sampleAccepted x ≡ true
-
--- the numbers of samples, one after the other
-abbrev pub joined : List Slice → List ℕ
-joined [] = []
-joined (x ∷ xs) = x ++ joined xs
 
 -- of the settings, the samples and the buffer: what is answered, and the buffer afterwards
 pub record ReplaysRightly (answer : Settings → List ℕ → List ℕ → Replayed) (into : Settings → List ℕ → List ℕ → List ℕ) : Type 0 where

@@ -63,8 +63,8 @@ unlessRefused zero given kept = given
 unlessRefused (suc n) given kept = kept
 
 -- by value a refused replay has the fresh board's report beside its number (spec 5.6)
-abbrev pub turnedAway : Refusal → Replayed
-turnedAway cause = record { number = refusalNumber cause; accepted = 0; report = freshReport }
+abbrev pub replayRefused : Refusal → Replayed
+replayRefused cause = record { number = refusalNumber cause; accepted = 0; report = freshReport }
 
 unfoldable pub replayed : Settings → List ℕ → List ℕ → Replayed
 replayed st samples buffer =

@@ -8,10 +8,11 @@ ghost use lib.ListN.{length};
 ghost use Rattle.rules.specs.Settings.{settingsAccepted};
 ghost use Rattle.rules.specs.Images.{imageLength};
 ghost use Rattle.claims.specs.FirstCause.{cause, first, settingsCauses};
-ghost use Rattle.replay.specs.Replays.{groupLength, ran, turnedAway, replayed, replayedInto};
+ghost use Rattle.replay.specs.Replays.{groupLength, ran, replayRefused, replayed, replayedInto};
 use image::save;
 use rules::Answer;
 use rules::Board;
+use rules::IMAGE_LENGTH;
 use rules::Refusal;
 use rules::Report;
 use rules::Settings;
@@ -24,9 +25,6 @@ use service::step_accepted;
 
 // A sample's numbers.
 const GROUP_LENGTH: usize = 7;
-
-// The image's bytes: a shorter buffer is refused.
-const IMAGE_LENGTH: usize = 45;
 
 // What a replay answers: 0 or the refusal's number, how many samples were accepted, and the last report.
 pub struct Replayed {
@@ -86,7 +84,7 @@ fn step_all(settings: Settings, samples: &[u32]) -> Ran
 
 // A refused replay: the number of its cause, and no samples.
 fn refused(cause: Refusal) -> Replayed
-    ensures { λ r. ⌜ r ≡ turnedAway cause ⌝ }
+    ensures { λ r. ⌜ r ≡ replayRefused cause ⌝ }
 {
     Replayed {
         number: refusal_number(cause) as u32,

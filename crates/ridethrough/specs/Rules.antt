@@ -28,14 +28,14 @@ abbrev pub regionAt : Reading → Region
 regionAt r = worse (voltageRegion (r .low)) (worse (voltageRegion (r .high)) (frequencyRegion (r .frequency)))
 
 -- whether limit i is broken, by its place: uv1 uv2, ov1 ov2, uf1 uf2, of1 of2
-abbrev pub brokenAt : Reading → ℕ → ℕ → Bool
-brokenAt r i level =
+abbrev pub readingBreaks : Reading → ℕ → ℕ → Bool
+readingBreaks r i level =
     cond (ltb i 2) (ltb (r .low) level)
     (cond (ltb i 4) (ltb level (r .high)) (cond (ltb i 6) (ltb (r .frequency) level) (ltb level (r .frequency))))
 
 -- whether counter i counts the reading: its limit is broken, or, for the ninth, the enter-service criteria hold
 abbrev pub hitAt : Reading → Settings → ℕ → Bool
-hitAt r s i = cond (ltb i 8) (brokenAt r i (limitAt s i .level)) (enters r s)
+hitAt r s i = cond (ltb i 8) (readingBreaks r i (limitAt s i .level)) (enters r s)
 
 -- the top of counter i: its clearing time, or, for the ninth, the wait, of which 0 counts as 1
 abbrev pub topAt : Settings → ℕ → ℕ

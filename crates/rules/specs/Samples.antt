@@ -51,12 +51,12 @@ sampleCheck x =
     (unless (all (leb (available x) 10000 ∷ leb (operatorLimit x) 10000 ∷ [])) Power
     SampleCheck.Accepted))))
 
-abbrev pub isAccepted : SampleCheck → Bool
-isAccepted SampleCheck.Accepted = true
-isAccepted (SampleCheck.Refused cause) = false
+abbrev pub samplePassed : SampleCheck → Bool
+samplePassed SampleCheck.Accepted = true
+samplePassed (SampleCheck.Refused cause) = false
 
 abbrev pub sampleAccepted : Slice → Bool
-sampleAccepted x = isAccepted (sampleCheck x)
+sampleAccepted x = samplePassed (sampleCheck x)
 
 -- ---- what the board makes of the codes
 

@@ -119,10 +119,10 @@ linesOf st =
 unfoldable pub settingsCheck : Settings → SettingsCheck
 settingsCheck st = checkFrom 1 rows (linesOf st)
 
-abbrev pub isAccepted : SettingsCheck → Bool
-isAccepted SettingsCheck.Accepted = true
-isAccepted (SettingsCheck.Refused cause line) = false
+abbrev pub settingsPassed : SettingsCheck → Bool
+settingsPassed SettingsCheck.Accepted = true
+settingsPassed (SettingsCheck.Refused cause line) = false
 
 -- an accepted sheet
 abbrev pub settingsAccepted : Settings → Bool
-settingsAccepted st = isAccepted (settingsCheck st)
+settingsAccepted st = settingsPassed (settingsCheck st)

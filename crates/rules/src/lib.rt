@@ -9,6 +9,9 @@ pub const SHEET_LINES: usize = 13;
 // Room for one line that is written, whichever; `lineRoom` in specs/.
 pub const LINE_ROOM: usize = 128;
 
+// How many bytes an image has: no shorter buffer takes it; `imageLength` in specs/.
+pub const IMAGE_LENGTH: usize = 45;
+
 // A trip line: a voltage or frequency limit, and its clearing time in steps.
 #[repr(C)]
 pub struct Limit {

@@ -21,7 +21,7 @@ use Rattle.rules.specs.declared.Settings.{Settings}
 use Rattle.rules.specs.declared.SettingsCheck.{SettingsCheck}
 use Rattle.claims.specs.FirstCause.{cause, first, settingsCauses, sampleCauses}
 use Rattle.claims.specs.SheetCauses.{FirstCauseAt, lineCause}
-use Rattle.basics.proofs.Refusals.{number-bounds}
+use Rattle.basics.proofs.Refusals.{number-bounds, none-refused}
 use Rattle.laws.proofs.FirstCause.{refuses-rightly}
 use Rattle.laws.proofs.SheetCauses.{sheets-refused-rightly}
 use Rattle.replay.specs.Replays.{replayNumber, replayed, replayedInto}
@@ -69,11 +69,7 @@ module _ (s : List ℕ) where
   unfolding sheetAnswer
   sheet-accepted =
       let accepts = sheets-refused-rightly .accepts s in
-      (λ zero. accepts .0 (no-number (readSheet s .check) zero), λ clear. ap settingsNumber (accepts .1 clear))
-    where
-      no-number : (c : SettingsCheck) → settingsNumber c ≡ 0 → c ≡ SettingsCheck.Accepted
-      no-number SettingsCheck.Accepted h = refl
-      no-number (SettingsCheck.Refused cause line) h = absurd (omega (arith, h, number-bounds cause .0))
+      (λ zero. accepts .0 (none-refused (readSheet s .check) zero), λ clear. ap settingsNumber (accepts .1 clear))
 
   pub settings-stored : (before : Settings) → sheetAnswer s .number ≡ 0 → settingsAfter before s ≡ readSheet s .settings
   unfolding sheetAnswer settingsAfter

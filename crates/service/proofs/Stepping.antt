@@ -12,7 +12,7 @@ use mir.Syntax.{w16, w32}
 use mir.Val.{SFits, toZ, ofZ}
 use mir.Facts.{toZ-ofZ}
 use Rattle.rules.specs.Tests.{any}
-use Rattle.rules.specs.Settings.{settingsCheck, isAccepted, settingsAccepted}
+use Rattle.rules.specs.Settings.{settingsCheck, settingsPassed, settingsAccepted}
 use Rattle.rules.specs.Samples.{Slice, Equipment, permitted, available, operatorLimit, mean, sampleCheck}
 use Rattle.rules.specs.Counters.{Rule, counted, full, broken, inRange, tripRules, readyRule, rules}
 use Rattle.rules.specs.Regions.{voltageRegion, regionOf, isContinuous}
@@ -182,7 +182,7 @@ module _ (e : Equipment) (s : Settings) (x : Slice) (b : Board) where
   good-settings : settingsAccepted s ≡ true → settingsCheck s ≡ SettingsCheck.Accepted
   good-settings ok = by (settingsCheck s) refl ok
     where
-      by : (k : SettingsCheck) → settingsCheck s ≡ k → isAccepted k ≡ true → settingsCheck s ≡ SettingsCheck.Accepted
+      by : (k : SettingsCheck) → settingsCheck s ≡ k → settingsPassed k ≡ true → settingsCheck s ≡ SettingsCheck.Accepted
       by SettingsCheck.Accepted k p = k
       by (SettingsCheck.Refused cause line) k p = absurd (false≢true p)
 

@@ -13,18 +13,18 @@ use Rattle.rules.specs.Settings.{Pair, rows, inRow}
 use Rattle.settings.specs.declared.ranges.Row.{Row}
 use Rattle.settings.specs.Rows.{rowOf, rowAt}
 
-joined : (a b c d : Bool) → (a && (b && (c && (d && true)))) ≡ ((a && b) && (c && d))
-joined true true true true = refl
-joined true true true false = refl
-joined true true false d = refl
-joined true false c d = refl
-joined false b c d = refl
+regrouped : (a b c d : Bool) → (a && (b && (c && (d && true)))) ≡ ((a && b) && (c && d))
+regrouped true true true true = refl
+regrouped true true true false = refl
+regrouped true true false d = refl
+regrouped true false c d = refl
+regrouped false b c d = refl
 
 pub halves : (r : rules.Row) (p : Pair)
     → inRow r p ≡ ((leZ (r .firstLow) (p .first) && leZ (p .first) (r .firstHigh)) && (leZ (r .secondLow) (p .second) && leZ (p .second) (r .secondHigh)))
 unfolding inRow all
 halves r p =
-    joined (leZ (r .firstLow) (p .first)) (leZ (p .first) (r .firstHigh)) (leZ (r .secondLow) (p .second)) (leZ (p .second) (r .secondHigh))
+    regrouped (leZ (r .firstLow) (p .first)) (leZ (p .first) (r .firstHigh)) (leZ (r .secondLow) (p .second)) (leZ (p .second) (r .secondHigh))
 
 pub row-here : (t : List Row) → map rowOf t ≡ rows → (i : ℕ) → rowOf (getD t i (pos 0, pos 0, pos 0, pos 0)) ≡ rowAt i
 row-here t e i = rw (← e, List·getD-map rowOf t i (pos 0, pos 0, pos 0, pos 0))

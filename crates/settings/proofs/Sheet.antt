@@ -12,9 +12,9 @@ use lib.ListN.{length, drop, length-map, List·getD-map}
 use Rattle.basics.proofs.Tables.{tabulated, tabulated-at}
 use Rattle.rules.specs.Settings.{sheetLines, linesOf, tripLine, pointPair}
 use Rattle.rules.specs.declared.Settings.{Settings}
-use Rattle.settings.specs.Lines.{lineAt, pairsIn}
+use Rattle.settings.specs.Lines.{settingsLine, pairsIn}
 
-pub trip-at : (s : Settings) (i : ℕ) → i < 8 → lineAt s i ≡ tripLine s i
+pub trip-at : (s : Settings) (i : ℕ) → i < 8 → settingsLine s i ≡ tripLine s i
 unfolding linesOf
 trip-at s i h = rw zero-add at (tabulated-at (tripLine s) 0 8 (drop 8 (linesOf s)) i [] h)
 
@@ -41,6 +41,6 @@ module _ (s : Settings) (four : length (s .var) ≡ 4) (two : length (s .watt) �
   unfolding linesOf
   lengths = rw (length-map (s .var) pointPair, length-map (s .watt) pointPair, four, two)
 
-  pub pairs-at : (i : ℕ) → i < sheetLines → length (lineAt s i) ≡ pairsIn i
+  pub pairs-at : (i : ℕ) → i < sheetLines → length (settingsLine s i) ≡ pairsIn i
   pairs-at i h =
       rw (← List·getD-map length (linesOf s) i [], lengths) (rw zero-add at (tabulated-at pairsIn 0 sheetLines [] i 0 h))

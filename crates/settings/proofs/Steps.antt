@@ -17,7 +17,7 @@ use Rattle.rules.specs.declared.Refusal.{Refusal}
 use Rattle.rules.specs.declared.Refusal.the-variants.{Range, Rise}
 use Rattle.rules.specs.declared.SettingsCheck.{SettingsCheck}
 use Rattle.settings.specs.Rows.{rowAt}
-use Rattle.settings.specs.Lines.{lineAt, lineFound}
+use Rattle.settings.specs.Lines.{settingsLine, lineFound}
 
 abbrev at : List Pair → ℕ → Pair
 at l k = getD l k (pair (pos 0) (pos 0))
@@ -62,7 +62,7 @@ lines-long s = refl
 abbrev pub from : Settings → ℕ → SettingsCheck
 from s i = checkFrom (i + 1) (drop i rows) (drop i (linesOf s))
 
-pub line-more : (s : Settings) (i : ℕ) → i < sheetLines → from s i ≡ lineCheck (rowAt i) (lineAt s i) (from s (i + 1)) (λ cause. SettingsCheck.Refused cause (i + 1))
+pub line-more : (s : Settings) (i : ℕ) → i < sheetLines → from s i ≡ lineCheck (rowAt i) (settingsLine s i) (from s (i + 1)) (λ cause. SettingsCheck.Refused cause (i + 1))
 unfolding checkFrom
 line-more s i h =
     let r : i < length rows = omega (arith, rows-long) in

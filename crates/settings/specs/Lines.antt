@@ -15,11 +15,11 @@ use Rattle.settings.specs.declared.lines.Pair.{Pair}
 abbrev pub pairOf : Pair → rules.Pair
 pairOf p = pair (p .first) (p .second)
 
-abbrev pub lineAt : Settings → ℕ → List rules.Pair
-lineAt s i = getD (linesOf s) i []
+abbrev pub settingsLine : Settings → ℕ → List rules.Pair
+settingsLine s i = getD (linesOf s) i []
 
-abbrev pub pairAt : Settings → ℕ → ℕ → rules.Pair
-pairAt s i k = getD (lineAt s i) k (pair (pos 0) (pos 0))
+abbrev pub settingsPair : Settings → ℕ → ℕ → rules.Pair
+settingsPair s i k = getD (settingsLine s i) k (pair (pos 0) (pos 0))
 
 -- how many pairs line i has
 abbrev pub pairsIn : ℕ → ℕ

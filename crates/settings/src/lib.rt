@@ -7,7 +7,7 @@ ghost use Rattle.rules.specs.Settings.{sheetLines, inRow, rising, settingsCheck
 ghost use Rattle.rules.specs.Refusals.{settingsNumber, lineOf};
 ghost use Rattle.claims.specs.FirstCause.{first, settingsCauses, causeLine};
 ghost use Rattle.settings.specs.Rows.{rowOf, rowAt};
-ghost use Rattle.settings.specs.Lines.{lineAt, lineFound};
+ghost use Rattle.settings.specs.Lines.{settingsLine, lineFound};
 
 mod lines;
 mod ranges;
@@ -16,16 +16,16 @@ use lines::pair_at;
 use lines::pairs_in;
 use ranges::Row;
 use ranges::in_row;
-use ranges::table;
+use ranges::row_table;
 use rules::Refusal;
 use rules::SHEET_LINES;
 use rules::Settings;
 use rules::SettingsCheck;
 
 // Whether every pair of a line lies in a row.
-fn in_range(row: Row, s: Settings, line: usize) -> bool
+fn line_in_row(row: Row, s: Settings, line: usize) -> bool
     requires { ⌜ line < sheetLines ⌝ }
-    ensures { λ r. ⌜ r ≡ all (map (inRow (rowOf row)) (lineAt s line)) ⌝ }
+    ensures { λ r. ⌜ r ≡ all (map (inRow (rowOf row)) (settingsLine s line)) ⌝ }
 {
     let count = pairs_in(line);
     let mut k = 0;
@@ -42,7 +42,7 @@ fn in_range(row: Row, s: Settings, line: usize) -> bool
 // Whether the first numbers along a line rise strictly.
 fn rises(s: Settings, line: usize) -> bool
     requires { ⌜ line < sheetLines ⌝ }
-    ensures { λ r. ⌜ r ≡ rising (lineAt s line) ⌝ }
+    ensures { λ r. ⌜ r ≡ rising (settingsLine s line) ⌝ }
 {
     let last = pairs_in(line) - 1;
     let mut k = 0;
@@ -60,9 +60,9 @@ fn rises(s: Settings, line: usize) -> bool
 // Refusals 2 and 3 of one line, 2 before 3 (spec 4.3).
 fn line_check(row: Row, s: Settings, line: usize) -> SettingsCheck
     requires { ⌜ line < sheetLines ⌝ }
-    ensures { λ r. ⌜ r ≡ lineFound (rowOf row) (lineAt s line) line ⌝ }
+    ensures { λ r. ⌜ r ≡ lineFound (rowOf row) (settingsLine s line) line ⌝ }
 {
-    let range = in_range(row, s, line);
+    let range = line_in_row(row, s, line);
     let rise = rises(s, line);
     let number = (line + 1) as u8;
     if !range {
@@ -77,9 +77,9 @@ fn line_check(row: Row, s: Settings, line: usize) -> SettingsCheck
 // The same for a line of settings, counted from 0.
 pub fn check_line(s: Settings, line: usize) -> SettingsCheck
     requires { ⌜ line < sheetLines ⌝ }
-    ensures { λ r. ⌜ r ≡ lineFound (rowAt line) (lineAt s line) line ⌝ }
+    ensures { λ r. ⌜ r ≡ lineFound (rowAt line) (settingsLine s line) line ⌝ }
 {
-    let rows = table();
+    let rows = row_table();
     let row = rows[line];
     line_check(row, s, line)
 }
@@ -89,7 +89,7 @@ pub fn check(s: Settings) -> SettingsCheck
     ensures { λ r. ⌜ r ≡ settingsCheck s ⌝ }
     ensures { λ r. ⌜ (settingsNumber r ≡ first (settingsCauses s)) × (lineOf r ≡ causeLine 1 (settingsCauses s)) ⌝ }
 {
-    let rows = table();
+    let rows = row_table();
     let mut line = 0;
     while line < SHEET_LINES {
         let row = rows[line];

@@ -3,7 +3,7 @@ ghost use mathlib.Core.Path.{_≡_};
 ghost use Prim.Native.Nat.{_<_};
 ghost use lib.IntN.{pos};
 ghost use Rattle.rules.specs.Settings.{sheetLines, pair, pointPair};
-ghost use Rattle.settings.specs.Lines.{pairOf, pairAt, pairsIn};
+ghost use Rattle.settings.specs.Lines.{pairOf, settingsPair, pairsIn};
 use rules::Point;
 use rules::Settings;
 
@@ -19,7 +19,7 @@ fn unsigned(n: u32) -> i64
     n as i64
 }
 
-fn signed(n: i32) -> i64
+fn widened(n: i32) -> i64
     ensures { λ r. ⌜ r ≡ n ⌝ }
 {
     n as i64
@@ -39,7 +39,7 @@ fn point_pair(p: Point) -> Pair
 {
     Pair {
         first: unsigned(p.volts),
-        second: signed(p.power),
+        second: widened(p.power),
     }
 }
 
@@ -57,7 +57,7 @@ pub fn pairs_in(line: usize) -> usize
 // Pair k of a line, both counted from 0.
 pub fn pair_at(s: Settings, line: usize, k: usize) -> Pair
     requires { ⌜ (line < sheetLines) × (k < pairsIn line) ⌝ }
-    ensures { λ r. ⌜ pairOf r ≡ pairAt s line k ⌝ }
+    ensures { λ r. ⌜ pairOf r ≡ settingsPair s line k ⌝ }
 {
     if line < 8 {
         let limit = s.trip[line];

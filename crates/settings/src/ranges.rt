@@ -30,7 +30,7 @@ const ROWS: [Row; SHEET_LINES] = [
 ];
 
 // The whole table.
-pub fn table() -> [Row; SHEET_LINES]
+pub fn row_table() -> [Row; SHEET_LINES]
     ensures { λ r. ⌜ map rowOf r ≡ rows ⌝ }
 {
     ROWS

@@ -10,7 +10,7 @@ use Rattle.rules.specs.declared.Settings.{Settings}
 use Rattle.rules.specs.declared.Refusal.the-variants.{Form}
 use Rattle.rules.specs.declared.SettingsCheck.{SettingsCheck}
 use Rattle.settings.specs.Rows.{rowAt}
-use Rattle.settings.specs.Lines.{lineAt, lineFound}
+use Rattle.settings.specs.Lines.{settingsLine, lineFound}
 use Rattle.text.specs.Lines.{numbersRead}
 use Rattle.text.specs.Places.{padded}
 use Rattle.text.specs.declared.Numbers.{Numbers}
@@ -26,12 +26,12 @@ module _ (i : ℕ) (st : Settings) where
 
   -- a line with it
   pub line-some : (o : Option (List ℤ)) (r : Numbers) → r ≡ numbersRead o → r .found ≡ true
-      → (next : Settings) (check : SettingsCheck) → next ≡ withNumbers st i (r .n) → check ≡ lineFound (rowAt i) (lineAt next i) i
+      → (next : Settings) (check : SettingsCheck) → next ≡ withNumbers st i (r .n) → check ≡ lineFound (rowAt i) (settingsLine next i) i
       → _≡_ {A = LineRead} (record { check = check; settings = next }) (onLine i st o)
   line-some none r e f next check p q = absurd (false≢true (sym (ap (λ (k : Numbers). k .found) e) ∙ f))
   line-some (some ns) r e f next check p q =
       let same : next ≡ withNumbers st i (padded ns) = p ∙ ap (λ (k : Numbers). withNumbers st i (k .n)) e in
-      made (q ∙ ap (λ (s : Settings). lineFound (rowAt i) (lineAt s i) i) same) same
+      made (q ∙ ap (λ (s : Settings). lineFound (rowAt i) (settingsLine s i) i) same) same
     where
       made : {c c′ : SettingsCheck} {s s′ : Settings} → c ≡ c′ → s ≡ s′
           → _≡_ {A = LineRead} (record { check = c; settings = s }) (record { check = c′; settings = s′ })

@@ -21,7 +21,7 @@ use Rattle.rules.specs.declared.Refusal.the-variants.{Form}
 use Rattle.rules.specs.declared.SettingsCheck.{SettingsCheck}
 use Rattle.formats.proofs.Forms.{line-written}
 use Rattle.settings.specs.Rows.{rowAt}
-use Rattle.settings.specs.Lines.{lineAt, lineFound}
+use Rattle.settings.specs.Lines.{settingsLine, lineFound}
 use Rattle.settings.proofs.Steps.{line-passes, line-refuses}
 use Rattle.formats.specs.Marks.{forms, formAt}
 use Rattle.text.specs.Places.{padded}
@@ -97,7 +97,7 @@ module _ (s : List ℕ) (i at : ℕ) (lines : List (List Pair)) (h : i < sheetLi
 
   module _ (long : length lines ≡ i) where
     accepted-numbers : (ns : List ℤ) → numbersOf (formAt i) line ≡ some ns
-        → lineFound (rowAt i) (lineAt (withNumbers (settingsOf lines) i (padded ns)) i) i ≡ SettingsCheck.Accepted
+        → lineFound (rowAt i) (settingsLine (withNumbers (settingsOf lines) i (padded ns)) i) i ≡ SettingsCheck.Accepted
         → Gone (withNumbers (settingsOf lines) i (padded ns))
     accepted-numbers ns p c =
         let suit = line-written (formAt i) line ns p .suit in
@@ -112,7 +112,7 @@ module _ (s : List ℕ) (i at : ℕ) (lines : List (List Pair)) (h : i < sheetLi
         }
 
     refused-numbers : (ns : List ℤ) → numbersOf (formAt i) line ≡ some ns → (cause : Refusal) (n : ℕ)
-        → lineFound (rowAt i) (lineAt (withNumbers (settingsOf lines) i (padded ns)) i) i ≡ SettingsCheck.Refused cause n
+        → lineFound (rowAt i) (settingsLine (withNumbers (settingsOf lines) i (padded ns)) i) i ≡ SettingsCheck.Refused cause n
         → (from s i at lines ≡ refusedAt cause (i + 1) at) × (n ≡ i + 1)
     refused-numbers ns p cause n c =
         let suit = line-written (formAt i) line ns p .suit in

@@ -15,7 +15,7 @@ use Rattle.rules.specs.Sheets.{pairs, settingsOf}
 use Rattle.rules.specs.declared.Limit.{Limit}
 use Rattle.rules.specs.declared.Settings.{Settings}
 use Rattle.formats.specs.Marks.{suits, formAt}
-use Rattle.settings.specs.Lines.{lineAt}
+use Rattle.settings.specs.Lines.{settingsLine}
 use Rattle.settings.proofs.Sheet.{trip-at}
 use Rattle.text.specs.Places.{padded}
 use Rattle.sheet.specs.Storing.{limitIn, withNumbers}
@@ -27,7 +27,7 @@ module _ (st : Settings) (eight : length (st .trip) ≡ 8) (x y : ℕ) where
   abbrev two : List ℤ
   two = pos x ∷ pos y ∷ []
 
-  in-trip : (i : ℕ) → i < 8 → lineAt (withNumbers st i (padded two)) i ≡ pair (pos x) (pos y) ∷ []
+  in-trip : (i : ℕ) → i < 8 → settingsLine (withNumbers st i (padded two)) i ≡ pair (pos x) (pos y) ∷ []
   unfolding withNumbers
   in-trip i h =
       trip-at (withNumbers st i (padded two)) i h
@@ -35,62 +35,62 @@ module _ (st : Settings) (eight : length (st .trip) ≡ 8) (x y : ℕ) where
       (ap (λ (b : Bool). getD (cond b (set (st .trip) i (limitIn (padded two))) (st .trip)) i noLimit) (lt-ltb i 8 h)
       ∙ getD-set-same (st .trip) i (limitIn (padded two)) noLimit (omega arith))
 
-  in-volts : lineAt (withNumbers st 8 (padded two)) 8 ≡ pair (pos x) (pos y) ∷ []
+  in-volts : settingsLine (withNumbers st 8 (padded two)) 8 ≡ pair (pos x) (pos y) ∷ []
   unfolding withNumbers linesOf
   in-volts = refl
 
-  in-hertz : lineAt (withNumbers st 9 (padded two)) 9 ≡ pair (pos x) (pos y) ∷ []
+  in-hertz : settingsLine (withNumbers st 9 (padded two)) 9 ≡ pair (pos x) (pos y) ∷ []
   unfolding withNumbers linesOf
   in-hertz = refl
 
-  in-wait : lineAt (withNumbers st 10 (padded two)) 10 ≡ pair (pos x) (pos y) ∷ []
+  in-wait : settingsLine (withNumbers st 10 (padded two)) 10 ≡ pair (pos x) (pos y) ∷ []
   unfolding withNumbers linesOf
   in-wait = refl
 
-  in-two : (i : ℕ) → i < 11 → lineAt (withNumbers st i (padded two)) i ≡ pair (pos x) (pos y) ∷ []
+  in-two : (i : ℕ) → i < 11 → settingsLine (withNumbers st i (padded two)) i ≡ pair (pos x) (pos y) ∷ []
   in-two i h = by (decLt i 8) (decLt i 9) (decLt i 10)
     where
-      at : (k : ℕ) → i ≡ k → lineAt (withNumbers st k (padded two)) k ≡ pair (pos x) (pos y) ∷ []
-          → lineAt (withNumbers st i (padded two)) i ≡ pair (pos x) (pos y) ∷ []
-      at k e l = subst (λ (j : ℕ). lineAt (withNumbers st j (padded two)) j ≡ pair (pos x) (pos y) ∷ []) (sym e) l
+      at : (k : ℕ) → i ≡ k → settingsLine (withNumbers st k (padded two)) k ≡ pair (pos x) (pos y) ∷ []
+          → settingsLine (withNumbers st i (padded two)) i ≡ pair (pos x) (pos y) ∷ []
+      at k e l = subst (λ (j : ℕ). settingsLine (withNumbers st j (padded two)) j ≡ pair (pos x) (pos y) ∷ []) (sym e) l
 
-      by : Dec (i < 8) → Dec (i < 9) → Dec (i < 10) → lineAt (withNumbers st i (padded two)) i ≡ pair (pos x) (pos y) ∷ []
+      by : Dec (i < 8) → Dec (i < 9) → Dec (i < 10) → settingsLine (withNumbers st i (padded two)) i ≡ pair (pos x) (pos y) ∷ []
       by (yes a) b c = in-trip i a
       by (no a) (yes b) c = at 8 (omega arith) in-volts
       by (no a) (no b) (yes c) = at 9 (omega arith) in-hertz
       by (no a) (no b) (no c) = at 10 (omega arith) in-wait
 
 in-var : (st : Settings) (a b c d : ℕ) (p q r s : ℤ)
-    → lineAt (withNumbers st 11 (padded (pos a ∷ p ∷ pos b ∷ q ∷ pos c ∷ r ∷ pos d ∷ s ∷ []))) 11 ≡ pairs (pos a ∷ p ∷ pos b ∷ q ∷ pos c ∷ r ∷ pos d ∷ s ∷ [])
+    → settingsLine (withNumbers st 11 (padded (pos a ∷ p ∷ pos b ∷ q ∷ pos c ∷ r ∷ pos d ∷ s ∷ []))) 11 ≡ pairs (pos a ∷ p ∷ pos b ∷ q ∷ pos c ∷ r ∷ pos d ∷ s ∷ [])
 unfolding withNumbers linesOf
 in-var st a b c d p q r s = refl
 
-in-watt : (st : Settings) (a b c d : ℕ) → lineAt (withNumbers st 12 (padded (pos a ∷ pos b ∷ pos c ∷ pos d ∷ []))) 12 ≡ pairs (pos a ∷ pos b ∷ pos c ∷ pos d ∷ [])
+in-watt : (st : Settings) (a b c d : ℕ) → settingsLine (withNumbers st 12 (padded (pos a ∷ pos b ∷ pos c ∷ pos d ∷ []))) 12 ≡ pairs (pos a ∷ pos b ∷ pos c ∷ pos d ∷ [])
 unfolding withNumbers linesOf
 in-watt st a b c d = refl
 
 pub in-line : (st : Settings) → length (st .trip) ≡ 8 → (i : ℕ) → i < sheetLines → (ns : List ℤ) → suits (formAt i) ns ≡ true
-    → lineAt (withNumbers st i (padded ns)) i ≡ pairs ns
+    → settingsLine (withNumbers st i (padded ns)) i ≡ pairs ns
 in-line st eight i h ns e = by (decLt i 11) (decLt i 12)
   where
     to : (k : ℕ) → i ≡ k → suits (formAt k) ns ≡ true
     to k p = subst (λ (j : ℕ). suits (formAt j) ns ≡ true) p e
 
-    from : (k : ℕ) → i ≡ k → lineAt (withNumbers st k (padded ns)) k ≡ pairs ns → lineAt (withNumbers st i (padded ns)) i ≡ pairs ns
-    from k p l = subst (λ (j : ℕ). lineAt (withNumbers st j (padded ns)) j ≡ pairs ns) (sym p) l
+    from : (k : ℕ) → i ≡ k → settingsLine (withNumbers st k (padded ns)) k ≡ pairs ns → settingsLine (withNumbers st i (padded ns)) i ≡ pairs ns
+    from k p l = subst (λ (j : ℕ). settingsLine (withNumbers st j (padded ns)) j ≡ pairs ns) (sym p) l
 
-    by : Dec (i < 11) → Dec (i < 12) → lineAt (withNumbers st i (padded ns)) i ≡ pairs ns
+    by : Dec (i < 11) → Dec (i < 12) → settingsLine (withNumbers st i (padded ns)) i ≡ pairs ns
     by (yes a) b =
         let t = two-numbers i a ns e in
-        subst (λ (l : List ℤ). lineAt (withNumbers st i (padded l)) i ≡ pairs l) (sym (t .is)) (in-two st eight (t .first) (t .second) i a)
+        subst (λ (l : List ℤ). settingsLine (withNumbers st i (padded l)) i ≡ pairs l) (sym (t .is)) (in-two st eight (t .first) (t .second) i a)
     by (no a) (yes b) =
         let v = var-numbers ns (to 11 (omega arith)) in
         from 11 (omega arith)
-        (subst (λ (l : List ℤ). lineAt (withNumbers st 11 (padded l)) 11 ≡ pairs l) (sym (v .is))
+        (subst (λ (l : List ℤ). settingsLine (withNumbers st 11 (padded l)) 11 ≡ pairs l) (sym (v .is))
         (in-var st (v .a) (v .b) (v .c) (v .d) (v .p) (v .q) (v .r) (v .s)))
     by (no a) (no b) =
         let w = watt-numbers ns (to 12 (omega arith)) in
-        from 12 (omega arith) (subst (λ (l : List ℤ). lineAt (withNumbers st 12 (padded l)) 12 ≡ pairs l) (sym (w .is)) (in-watt st (w .a) (w .b) (w .c) (w .d)))
+        from 12 (omega arith) (subst (λ (l : List ℤ). settingsLine (withNumbers st 12 (padded l)) 12 ≡ pairs l) (sym (w .is)) (in-watt st (w .a) (w .b) (w .c) (w .d)))
 
 -- ---- the settings of one line more: at each number of lines before it both sides compute
 

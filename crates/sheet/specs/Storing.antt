@@ -15,7 +15,7 @@ use Rattle.rules.specs.declared.Settings.{Settings}
 use Rattle.rules.specs.declared.Refusal.the-variants.{Form}
 use Rattle.rules.specs.declared.SettingsCheck.{SettingsCheck}
 use Rattle.settings.specs.Rows.{rowAt}
-use Rattle.settings.specs.Lines.{lineAt, lineFound}
+use Rattle.settings.specs.Lines.{settingsLine, lineFound}
 use Rattle.formats.specs.Marks.{formAt}
 use Rattle.text.specs.Places.{padded}
 use Rattle.sheet.specs.declared.LineRead.{LineRead}
@@ -50,7 +50,7 @@ abbrev pub onLine : ℕ → Settings → Option (List ℤ) → LineRead
 onLine i st none = record { check = SettingsCheck.Refused Form (i + 1); settings = st }
 onLine i st (some ns) =
     record {
-      check = lineFound (rowAt i) (lineAt (withNumbers st i (padded ns)) i) i;
+      check = lineFound (rowAt i) (settingsLine (withNumbers st i (padded ns)) i) i;
       settings = withNumbers st i (padded ns);
     }
 

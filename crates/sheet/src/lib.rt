@@ -25,7 +25,7 @@ pub struct LineRead {
     pub settings: Settings,
 }
 
-fn number_of(line: usize) -> u8
+fn line_number(line: usize) -> u8
     requires { ⌜ line < sheetLines ⌝ }
     ensures { λ r. ⌜ r ≡ line + 1 ⌝ }
 {
@@ -40,7 +40,7 @@ pub fn read_line(i: usize, line: &[u8], before: Settings) -> LineRead
     let read = form_numbers(i, line);
     if !read.found {
         return LineRead {
-            check: SettingsCheck::Refused(Refusal::Form, number_of(i)),
+            check: SettingsCheck::Refused(Refusal::Form, line_number(i)),
             settings: before,
         };
     }
@@ -72,7 +72,7 @@ pub fn read(s: &[u8]) -> SheetOutcome
         let end = line_end(s, at);
         if end >= s.len() {
             return SheetOutcome {
-                check: SettingsCheck::Refused(Refusal::Form, number_of(i)),
+                check: SettingsCheck::Refused(Refusal::Form, line_number(i)),
                 settings: no_settings(),
                 start: at,
             };

@@ -41,8 +41,8 @@ loop-less c = search needs
 loop-again : tie.Need-loop-again Inv-loop μ-loop
 loop-again c = search needs
 
-shown-requires : tie.Need-shown-requires Inv-loop μ-loop
-shown-requires c κs = search needs
+status-of-requires : tie.Need-status-of-requires Inv-loop μ-loop
+status-of-requires c κs = search needs
 
 returns : tie.Need-returns Inv-loop μ-loop
 returns c = search needs
@@ -63,5 +63,5 @@ status-above-ov2-spec =
     add-i
     loop-less
     loop-again
-    shown-requires
+    status-of-requires
     returns)

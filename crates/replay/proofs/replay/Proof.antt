@@ -3,7 +3,7 @@
 use mathlib.Core.Path.{sym, ap, _∙_}
 use native.Mathlib.Omega.{arith}
 use denote.Ref.{now}
-use Rattle.rules.specs.Settings.{isAccepted}
+use Rattle.rules.specs.Settings.{settingsPassed}
 use Rattle.replay.proofs.Answering.{by-2-or-3, by-9, through, numbered}
 use borrow.Author.Needs.{needs}
 use Rattle.replay.proofs.replay.Statement.{statement}
@@ -33,7 +33,7 @@ returns c =
     ((told-all, is .1), numbered (a .settings) (now (a .samples)) (now (a .buffer)) _ told-all)
 
 step-all-requires : tie.Need-step-all-requires
-step-all-requires c κs = ap isAccepted (sym (c .before .before .before .check .ensures .0) ∙ c .before .enum-told .given .1)
+step-all-requires c κs = ap settingsPassed (sym (c .before .before .before .check .ensures .0) ∙ c .before .enum-told .given .1)
 
 save-requires : tie.Need-save-requires
 save-requires c κs = search needs

@@ -8,7 +8,7 @@ use Rattle.rules.specs.Refusals.{settingsNumber, lineOf}
 use Rattle.rules.specs.declared.Settings.{Settings}
 use Rattle.rules.specs.declared.SettingsCheck.{SettingsCheck}
 use Rattle.settings.specs.Rows.{rowAt}
-use Rattle.settings.specs.Lines.{lineAt, lineFound}
+use Rattle.settings.specs.Lines.{settingsLine, lineFound}
 use Rattle.settings.proofs.Rows.{row-here}
 use Rattle.settings.proofs.Steps.{from, line-more, line-end, line-passes, line-refuses}
 use Rattle.claims.specs.FirstCause.{first, settingsCauses, causeLine}
@@ -28,8 +28,8 @@ Inv-loop s rows line₀ line = (line ≤ sheetLines) × (settingsCheck s ≡ fro
 abbrev μ-loop : tie.MeasureT-loop
 μ-loop s rows line₀ line = sheetLines - line
 
-table-requires : tie.Need-table-requires Inv-loop μ-loop
-table-requires c κs = search needs
+row-table-requires : tie.Need-row-table-requires Inv-loop μ-loop
+row-table-requires c κs = search needs
 
 loop-holds : tie.Need-loop-holds Inv-loop μ-loop
 unfolding settingsCheck
@@ -58,11 +58,11 @@ loop-again c =
     let at = c .before .before .before .before .before in
     let s = at .before .before .args .s in
     let i = at .loop .line in
-    let row = row-here (at .before .table .result) (at .before .table .ensures) i in
-    let found : lineFound (rowAt i) (lineAt s i) i ≡ SettingsCheck.Accepted = rw (← row) (sym (c .before .before .line-check .ensures) ∙ c .enum-told .given .1) in (
+    let row = row-here (at .before .row-table .result) (at .before .row-table .ensures) i in
+    let found : lineFound (rowAt i) (settingsLine s i) i ≡ SettingsCheck.Accepted = rw (← row) (sym (c .before .before .line-check .ensures) ∙ c .enum-told .given .1) in (
       omega arith,
       at .loop .inv .1 ∙ line-more s i (omega arith)
-          ∙ line-passes (rowAt i) (lineAt s i) i (from s (i + 1)) (λ cause. SettingsCheck.Refused cause (i + 1)) found,
+          ∙ line-passes (rowAt i) (settingsLine s i) i (from s (i + 1)) (λ cause. SettingsCheck.Refused cause (i + 1)) found,
     )
 
 enum-told-2 : tie.Need-enum-told-2 Inv-loop μ-loop
@@ -73,12 +73,12 @@ returns c =
     let at = c .before .before .before .before .before in
     let s = at .before .before .args .s in
     let i = at .loop .line in
-    let row = row-here (at .before .table .result) (at .before .table .ensures) i in
+    let row = row-here (at .before .row-table .result) (at .before .row-table .ensures) i in
     let told = c .enum-told2 .given in
     let cause = told .0 .0 in
     let n = told .0 .1 .0 in
-    let found : lineFound (rowAt i) (lineAt s i) i ≡ SettingsCheck.Refused cause n = rw (← row) (sym (c .before .before .line-check .ensures) ∙ told .1) in
-    let refused = line-refuses (rowAt i) (lineAt s i) i (from s (i + 1)) (λ why. SettingsCheck.Refused why (i + 1)) cause n found in
+    let found : lineFound (rowAt i) (settingsLine s i) i ≡ SettingsCheck.Refused cause n = rw (← row) (sym (c .before .before .line-check .ensures) ∙ told .1) in
+    let refused = line-refuses (rowAt i) (settingsLine s i) i (from s (i + 1)) (λ why. SettingsCheck.Refused why (i + 1)) cause n found in
     promised s _ (told .1 ∙ ap (SettingsCheck.Refused cause) (refused .1) ∙ sym (at .loop .inv .1 ∙ line-more s i (omega arith) ∙ refused .0))
 
 returns-2 : tie.Need-returns-2 Inv-loop μ-loop
@@ -92,7 +92,7 @@ check-spec =
     (tie.spec
     Inv-loop
     μ-loop
-    table-requires
+    row-table-requires
     loop-holds
     mul-row
     array-copy-out-row

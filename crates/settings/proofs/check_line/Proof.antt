@@ -5,8 +5,8 @@ use borrow.Author.Needs.{needs}
 use Rattle.settings.proofs.check_line.Statement.{statement}
 use Rattle.settings.proofs.check_line.Tie as tie
 
-table-requires : tie.Need-table-requires
-table-requires c κs = search needs
+row-table-requires : tie.Need-row-table-requires
+row-table-requires c κs = search needs
 
 mul-row : tie.Need-mul-row
 mul-row c = search needs
@@ -19,9 +19,9 @@ line-check-requires c κs = search needs
 
 returns : tie.Need-returns
 returns c =
-    let t = c .before .before .table in
+    let t = c .before .before .row-table in
     rw (row-here (t .result) (t .ensures) (c .before .before .before .args .line)) at (c .line-check .ensures)
 
 pub check-line-spec : {M : Type 1} → statement M
 check-line-spec =
-    tie.close (tie.spec table-requires mul-row array-copy-out-row line-check-requires returns)
+    tie.close (tie.spec row-table-requires mul-row array-copy-out-row line-check-requires returns)

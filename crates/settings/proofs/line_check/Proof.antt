@@ -5,8 +5,8 @@ use borrow.Author.Needs.{needs}
 use Rattle.settings.proofs.line_check.Statement.{statement}
 use Rattle.settings.proofs.line_check.Tie as tie
 
-in-range-requires : tie.Need-in-range-requires
-in-range-requires c κs = search needs
+line-in-row-requires : tie.Need-line-in-row-requires
+line-in-row-requires c κs = search needs
 
 rises-requires : tie.Need-rises-requires
 rises-requires c κs = search needs
@@ -20,14 +20,14 @@ cast-number c = search needs
 returns : tie.Need-returns
 returns c =
     let found = c .before .before in
-    rw (← found .in-range .ensures, not-true (found .in-range .result) (c .if1 .taken))
+    rw (← found .line-in-row .ensures, not-true (found .line-in-row .result) (c .if1 .taken))
 
 returns-2 : tie.Need-returns-2
 returns-2 c =
     let found = c .before .before .before in
     rw (
-      ← found .in-range .ensures,
-      not-false (found .in-range .result) (c .before .if1 .left),
+      ← found .line-in-row .ensures,
+      not-false (found .line-in-row .result) (c .before .if1 .left),
       ← c .before .before .rises .ensures,
       not-true (c .before .before .rises .result) (c .if2 .taken),
     )
@@ -36,8 +36,8 @@ returns-3 : tie.Need-returns-3
 returns-3 c =
     let found = c .before .before .before in
     rw (
-      ← found .in-range .ensures,
-      not-false (found .in-range .result) (c .before .if1 .left),
+      ← found .line-in-row .ensures,
+      not-false (found .line-in-row .result) (c .before .if1 .left),
       ← c .before .before .rises .ensures,
       not-false (c .before .before .rises .result) (c .if2 .left),
     )
@@ -45,4 +45,4 @@ returns-3 c =
 pub line-check-spec : {M : Type 1} → statement M
 line-check-spec =
     tie.close
-    (tie.spec in-range-requires rises-requires add-number cast-number returns returns-2 returns-3)
+    (tie.spec line-in-row-requires rises-requires add-number cast-number returns returns-2 returns-3)

@@ -9,7 +9,7 @@ use mir.Syntax.{w64}
 use borrow.Author.Needs.{needs}
 use borrow.Author.Tests.{not-true, not-false}
 use Rattle.rules.specs.Settings.{rising}
-use Rattle.settings.specs.Lines.{lineAt, pairsIn}
+use Rattle.settings.specs.Lines.{settingsLine, pairsIn}
 use Rattle.settings.proofs.Words.{word}
 use Rattle.settings.proofs.Sheet.{some-pair, pairs-at, unmapped}
 use Rattle.settings.proofs.Steps.{rise-more, rise-end}
@@ -17,12 +17,12 @@ use Rattle.settings.proofs.rises.Statement.{statement}
 use Rattle.settings.proofs.rises.Tie as tie
 
 abbrev Inv-loop : tie.InvT-loop
-Inv-loop s line last k₀ k = (k ≤ last) × (rising (lineAt s line) ≡ rising (drop k (lineAt s line)))
+Inv-loop s line last k₀ k = (k ≤ last) × (rising (settingsLine s line) ≡ rising (drop k (settingsLine s line)))
 
 abbrev μ-loop : tie.MeasureT-loop
 μ-loop s line last k₀ k = last - k
 
-long : (c : tie.Start Inv-loop μ-loop) → length (lineAt (c .args .s) (c .args .line)) ≡ pairsIn (c .args .line)
+long : (c : tie.Start Inv-loop μ-loop) → length (settingsLine (c .args .s) (c .args .line)) ≡ pairsIn (c .args .line)
 long c = pairs-at (c .args .s) (search (needs, unmapped)) (search (needs, unmapped)) (c .args .line) (c .pre)
 
 pairs-in-requires : tie.Need-pairs-in-requires Inv-loop μ-loop
@@ -52,7 +52,7 @@ returns c =
     let turn = c .before .before .before .before .before .before .before in
     let at = turn .before in
     let z = at .before .before in
-    let l = lineAt (z .args .s) (z .args .line) in
+    let l = settingsLine (z .args .s) (z .args .line) in
     let left = c .before .before .before .before .before .before .pair-at in
     let right = c .before .before .before .before .before .pair-at2 in
     let more = rise-more l (at .loop .k) (omega (arith, long z, at .before .pairs-in .ensures, turn .loop-test .taken)) in
@@ -70,7 +70,7 @@ loop-again c =
     let turn = c .before .before .before .before .before .before .before in
     let at = turn .before in
     let z = at .before .before in
-    let l = lineAt (z .args .s) (z .args .line) in
+    let l = settingsLine (z .args .s) (z .args .line) in
     let left = c .before .before .before .before .before .before .pair-at in
     let right = c .before .before .before .before .before .pair-at2 in
     let more = rise-more l (at .loop .k) (omega (arith, long z, at .before .pairs-in .ensures, turn .loop-test .taken)) in
@@ -81,7 +81,7 @@ returns-2 : tie.Need-returns-2 Inv-loop μ-loop
 returns-2 c =
     let at = c .before in
     let z = at .before .before in
-    rw (at .loop .inv .1, rise-end (lineAt (z .args .s) (z .args .line)) (at .loop .k) (omega (arith, long z, at .before .pairs-in .ensures)))
+    rw (at .loop .inv .1, rise-end (settingsLine (z .args .s) (z .args .line)) (at .loop .k) (omega (arith, long z, at .before .pairs-in .ensures)))
 
 pub rises-spec : {M : Type 1} → statement M
 rises-spec =

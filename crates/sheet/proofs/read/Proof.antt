@@ -1,6 +1,6 @@
 -- `sheet::read` meets its contract. The loop's invariant: i lines are read, and the rest is read from here on (`Reading.antt`).
 -- Assumes nothing.
-use mathlib.Core.Path.{_≡_, refl, sym, ap, subst}
+use mathlib.Core.Path.{sym, ap, subst}
 use mathlib.Core.List.{List}
 use Prim.Native.Nat.{ℕ, _-_}
 use native.Mathlib.Omega.{arith}
@@ -8,20 +8,14 @@ use denote.Ref.{now}
 use borrow.Author.Needs.{needs}
 use Rattle.rules.specs.Settings.{sheetLines}
 use Rattle.rules.specs.Refusals.{settingsNumber}
-use Rattle.basics.proofs.Refusals.{number-bounds}
+use Rattle.basics.proofs.Refusals.{none-refused}
 use Rattle.rules.specs.Sheets.{readSheet}
-use Rattle.rules.specs.declared.SettingsCheck.{SettingsCheck}
 use Rattle.laws.proofs.SheetCauses.{sheets-refused-rightly}
 use Rattle.sheet.specs.Outcomes.{Gives, Numbered, SheetGiven}
 use Rattle.sheet.specs.declared.SheetOutcome.{SheetOutcome}
 use Rattle.sheet.proofs.Reading.{Going, beginning, unended, goes-on, stops, finished}
 use Rattle.sheet.proofs.read.Statement.{statement}
 use Rattle.sheet.proofs.read.Tie as tie
-
--- a check whose number is 0 is accepted
-none-refused : (c : SettingsCheck) → settingsNumber c ≡ 0 → c ≡ SettingsCheck.Accepted
-none-refused SettingsCheck.Accepted e = refl
-none-refused (SettingsCheck.Refused cause line) e = absurd (omega (arith, e, number-bounds cause .0))
 
 by-cause : (s : List ℕ) → Numbered s (readSheet s .check)
 by-cause s =
@@ -51,8 +45,8 @@ loop-holds c =
 line-end-requires : tie.Need-line-end-requires Inv-loop μ-loop
 line-end-requires c κs = search needs
 
-number-of-requires : tie.Need-number-of-requires Inv-loop μ-loop
-number-of-requires c κs = search needs
+line-number-requires : tie.Need-line-number-requires Inv-loop μ-loop
+line-number-requires c κs = search needs
 
 no-settings-requires-2 : tie.Need-no-settings-requires-2 Inv-loop μ-loop
 no-settings-requires-2 c κs = search needs
@@ -62,7 +56,7 @@ returns c =
     let w = c .before .before .before .before .before .loop in
     let s = now (c .before .before .before .before .before .before .before .before .args .s) in
     let end = c .before .before .before .line-end in (
-      given s _ (unended s (w .settings) (w .at) (w .i) (end .result) (w .inv) (omega arith) (end .ensures .0) (end .ensures .1) (omega arith) (c .before .number-of .result) (c .no-settings2 .result) (c .before .number-of .ensures) (c .no-settings2 .ensures)),
+      given s _ (unended s (w .settings) (w .at) (w .i) (end .result) (w .inv) (omega arith) (end .ensures .0) (end .ensures .1) (omega arith) (c .before .line-number .result) (c .no-settings2 .result) (c .before .line-number .ensures) (c .no-settings2 .ensures)),
       w .inv .inside,
     )
 
@@ -128,7 +122,7 @@ read-spec =
     no-settings-requires
     loop-holds
     line-end-requires
-    number-of-requires
+    line-number-requires
     no-settings-requires-2
     returns
     sub-read-line

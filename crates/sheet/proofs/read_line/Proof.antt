@@ -13,8 +13,8 @@ use Rattle.sheet.proofs.read_line.Tie as tie
 form-numbers-requires : tie.Need-form-numbers-requires
 form-numbers-requires c κs = search needs
 
-number-of-requires : tie.Need-number-of-requires
-number-of-requires c κs = search needs
+line-number-requires : tie.Need-line-number-requires
+line-number-requires c κs = search needs
 
 returns : tie.Need-returns
 unfolding lineRead
@@ -22,7 +22,7 @@ returns c =
     let a = c .before .before .before .before .before .args in
     let read = c .before .before .before .form-numbers in
     line-none (a .i) (a .before) (numbersOf (formAt (a .i)) (now (a .line))) (read .result) (read .ensures)
-    (not-true (read .result .found) (c .before .if1 .taken)) (c .number-of .result) (c .number-of .ensures)
+    (not-true (read .result .found) (c .before .if1 .taken)) (c .line-number .result) (c .line-number .ensures)
 
 with-numbers-requires : tie.Need-with-numbers-requires
 with-numbers-requires c κs = search needs
@@ -44,7 +44,7 @@ read-line-spec =
     tie.close
     (tie.spec
     form-numbers-requires
-    number-of-requires
+    line-number-requires
     returns
     with-numbers-requires
     check-line-requires

@@ -2,7 +2,7 @@
 -- Assumes nothing.
 use mathlib.Core.Path.{sym, ap, _∙_}
 use mathlib.Core.Bool.{false≢true}
-use Rattle.rules.specs.Settings.{isAccepted}
+use Rattle.rules.specs.Settings.{settingsPassed}
 use Rattle.service.proofs.Stepping.{settings-refused}
 use borrow.Author.Needs.{needs}
 use Rattle.handling.proofs.sample_lines.refused_settings.Statement.{statement}
@@ -27,7 +27,7 @@ returns-2 : tie.Need-returns-2
 returns-2 c =
     λ e x.
     let start = c .before .before .before in
-    absurd (false≢true (sym (start .pre) ∙ ap isAccepted (sym (c .before .before .check .ensures .0) ∙ c .enum-told .given .1)))
+    absurd (false≢true (sym (start .pre) ∙ ap settingsPassed (sym (c .before .before .check .ensures .0) ∙ c .enum-told .given .1)))
 
 pub refused-settings-spec : {M : Type 1} → statement M
 refused-settings-spec =

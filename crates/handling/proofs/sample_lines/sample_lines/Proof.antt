@@ -39,11 +39,11 @@ slice-aggregate-line-at c = search needs
 line-at-requires : tie.Need-line-at-requires Inv-loop μ-loop
 line-at-requires c κs = (c .before .before .before .before .sample-form .ensures, c .before .before .loop .inv .carried .stands .inside)
 
-sub-fits : tie.Need-sub-fits Inv-loop μ-loop
-sub-fits c = let k = c .before .before .before .loop .inv .carried .wrote in omega (arith, k .inside, wrote-length k)
+sub-answerable : tie.Need-sub-answerable Inv-loop μ-loop
+sub-answerable c = let k = c .before .before .before .loop .inv .carried .wrote in omega (arith, k .inside, wrote-length k)
 
-fits-requires : tie.Need-fits-requires Inv-loop μ-loop
-fits-requires c κs = search needs
+answerable-requires : tie.Need-answerable-requires Inv-loop μ-loop
+answerable-requires c κs = search needs
 
 answer-to-requires : tie.Need-answer-to-requires Inv-loop μ-loop
 answer-to-requires c κs = c .before .before .before .before .before .before .before .before .accepted .ensures
@@ -59,7 +59,7 @@ put-answer-requires c κs =
     let test = c .before .before .before .before .before .before .before .loop-test .taken in
     let before = subst (Going e s d (a .h) (w .out) at) test (w .inv) in
     let x = c .before .before .before .before .before .line-at in
-    let fits = sym (c .before .before .before .before .fits2 .ensures) ∙ c .before .before .before .if1 .taken in
+    let fits = sym (c .before .before .before .before .answerable .ensures) ∙ c .before .before .before .if1 .taken in
     room e s d (a .h) (w .out) (w .board) (w .line) (w .overlong) (w .at) (w .w) before (x .result) (x .ensures) fits
 
 add-line : tie.Need-add-line Inv-loop μ-loop
@@ -77,7 +77,7 @@ loop-less c =
     let test = c .before .before .before .before .before .before .before .before .before .before .loop-test .taken in
     let before = subst (Going e s d (a .h) (w .out) at) test (w .inv) in
     let x = c .before .before .before .before .before .before .before .before .line-at in
-    let fits = sym (c .before .before .before .before .before .before .before .fits2 .ensures) ∙ c .before .before .before .before .before .before .if1 .taken in
+    let fits = sym (c .before .before .before .before .before .before .before .answerable .ensures) ∙ c .before .before .before .before .before .before .if1 .taken in
     let next = next-is e s d (a .h) (w .out) (w .board) (w .line) (w .overlong) (w .at) (w .w) before (x .result) (x .ensures) fits in
     let r = c .before .before .before .before .before .answer-to in
     let put = c .before .before .put-answer .ensures in
@@ -100,7 +100,7 @@ loop-again c =
     let x = c .before .before .before .before .before .before .before .before .line-at in
     let r = c .before .before .before .before .before .answer-to in
     let on = c .before .before .before .before .before .before .if1 .taken in
-    let fits = sym (c .before .before .before .before .before .before .before .fits2 .ensures) ∙ on in
+    let fits = sym (c .before .before .before .before .before .before .before .answerable .ensures) ∙ on in
     let put = c .before .before .put-answer .ensures in
     rw on
     (goes-on e s d (a .h) (w .out) (w .board) (w .line) (w .overlong) (w .at) (w .w) before (x .result) (x .ensures) fits (r .result) (r .ensures) _ _ put)
@@ -119,7 +119,7 @@ loop-again-2 c =
     let test = c .before .before .before .before .loop-test .taken in
     let before = subst (Going e s d (a .h) (w .out) at) test (w .inv) in
     let x = c .before .before .line-at in
-    let full = sym (c .before .fits2 .ensures) ∙ c .if1 .left in
+    let full = sym (c .before .answerable .ensures) ∙ c .if1 .left in
     rw (c .if1 .left) (stops e s d (a .h) (w .out) (w .board) (w .line) (w .overlong) (w .at) (w .w) before (x .result) (x .ensures) full)
 
 sub-t27 : tie.Need-sub-t27 Inv-loop μ-loop
@@ -145,8 +145,8 @@ sample-lines-spec =
     loop-holds
     slice-aggregate-line-at
     line-at-requires
-    sub-fits
-    fits-requires
+    sub-answerable
+    answerable-requires
     answer-to-requires
     put-answer-requires
     add-line

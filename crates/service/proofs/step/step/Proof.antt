@@ -3,7 +3,7 @@
 use mathlib.Core.Path.{_≡_, sym, ap, _∙_}
 use mathlib.Core.List.{_++_}
 use denote.Ref.{now}
-use Rattle.rules.specs.Settings.{isAccepted}
+use Rattle.rules.specs.Settings.{settingsPassed}
 use Rattle.rules.specs.Regions.{ourEquipment, equippedWith}
 use Rattle.rules.specs.Samples.{Slice}
 use Rattle.rules.specs.Refusals.{answerNumber}
@@ -39,7 +39,7 @@ table-requires c κs = search needs
 
 step-accepted-requires : tie.Need-step-accepted-requires
 step-accepted-requires c κs =
-    ap isAccepted (sym (c .before .before .before .before .check .ensures .0) ∙ c .before .before .enum-told .given .1)
+    ap settingsPassed (sym (c .before .before .before .before .check .ensures .0) ∙ c .before .before .enum-told .given .1)
 
 returns : tie.Need-returns
 returns c =

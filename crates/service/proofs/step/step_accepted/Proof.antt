@@ -3,7 +3,7 @@
 use mathlib.Core.Path.{_≡_, refl, sym, ap, _∙_}
 use mathlib.Core.Bool.{true}
 use denote.Ref.{now}
-use Rattle.rules.specs.Samples.{isAccepted, sampleAccepted}
+use Rattle.rules.specs.Samples.{samplePassed, sampleAccepted}
 use Rattle.rules.specs.Regions.{equippedWith}
 use Rattle.laws.proofs.Accepted.{sample-right}
 use Rattle.laws.proofs.Demand2.{accepted-step}
@@ -23,12 +23,12 @@ enum-told c = search needs
 
 read-requires : tie.Need-read-requires
 read-requires c κs =
-    ap isAccepted (sym (c .before .before .check .ensures) ∙ c .enum-told .given .1)
+    ap samplePassed (sym (c .before .before .check .ensures) ∙ c .enum-told .given .1)
 
 advance-requires : tie.Need-advance-requires
 advance-requires c κs =
     let s = c .before .before .before .before .before in
-    let ok : sampleAccepted (now (s .args .x)) ≡ true = ap isAccepted (sym (c .before .before .before .check .ensures) ∙ c .before .enum-told .given .1) in
+    let ok : sampleAccepted (now (s .args .x)) ≡ true = ap samplePassed (sym (c .before .before .before .check .ensures) ∙ c .before .enum-told .given .1) in
     let right = sample-right (now (s .args .x)) ok in
     rw (c .read .ensures) (record { sheet = s .pre; available-top = right .available-top; limit-top = right .limit-top })
 
@@ -43,7 +43,7 @@ returns-2 : tie.Need-returns-2
 returns-2 c =
     let s = c .before .before .before .before .before .before in
     let ok : sampleAccepted (now (s .args .x)) ≡ true
-    = ap isAccepted (sym (c .before .before .before .before .check .ensures) ∙ c .before .before .enum-told .given .1) in
+    = ap samplePassed (sym (c .before .before .before .before .check .ensures) ∙ c .before .before .enum-told .given .1) in
     let e = equippedWith (now (s .args .table)) in
     c .advance .ensures e (now (s .args .x)) refl (sym (c .before .read .ensures))
     ∙ sym (accepted-step e (s .args .b) (s .args .s) (now (s .args .x)) (s .pre) ok)
