@@ -10,6 +10,7 @@
 enum { BLOCK = 1 << 18, LINE_MOST = 73, OUT_FULL = 1 << 18, OUT_LINE = 128 };
 enum { TRIPPED, ENTERING, CONTINUOUS, MANDATORY, MOMENTARY, CEASE };
 enum { FORM = 1, RANGE, RISE, CODE, FREQUENCY, PERMISSION, POWER, SAMPLE };
+enum { RECOVERY_TOP = 40, RECOVERY_STEP = 10000 / RECOVERY_TOP };
 
 static const int64_t INPUT_END = 1000000000000;
 
@@ -18,7 +19,7 @@ typedef struct {
     uint32_t limit[8], time[8], volts_low, volts_high, hertz_low, hertz_high, wait, ramp;
     point var[4], watt[2];
 } settings;
-typedef struct { uint32_t counter[9], ramp, share, full; int in_service; } board;
+typedef struct { uint32_t counter[9], ramp, share, recovery; int in_service; } board; /* recovery counts in service only */
 typedef struct { const char *head; int pairs, low1, high1, low2, high2; } row;
 
 static const row ROWS[13] = {
@@ -141,13 +142,15 @@ static inline void put_decimal(uint32_t n) {
     to += decimal[n][7];
 }
 
-static inline void report(int status, uint32_t bits, uint32_t share, uint32_t watts, int32_t vars) {
+static inline void report(int status, uint32_t bits, uint32_t share, uint32_t recovery, uint32_t watts, int32_t vars) {
     memcpy(to, HEADS[status], 24);
     to += HEAD_LENGTHS[status];
     memcpy(to, nine_bits[bits], 16);
     to += 9;
     *to++ = ' ';
     put_decimal(share);
+    *to++ = ' ';
+    put_decimal(recovery);
     *to++ = ' ';
     put_decimal(watts);
     *to++ = ' ';
@@ -186,19 +189,23 @@ static inline int step(board *b, const settings *s, const uint32_t *n) {
     } else if (bits & 1) {
         b->in_service = 1;
         b->ramp = b->share = 0;
+        b->recovery = RECOVERY_TOP;
     }
     if (!b->in_service) {
-        report(TRIPPED, bits, 0, 0, 0);
+        report(TRIPPED, bits, 0, RECOVERY_TOP, 0, 0);
         return 0;
     }
     if (band >= 2) {
-        report(band + 2, bits, b->share, 0, 0);
+        b->recovery = 0;
+        report(band + 2, bits, b->share, 0, 0, 0);
         return 0;
     }
     int32_t mean = (v0 + v1 + v2) / 3, vars = var_curve(s, mean);
     uint32_t watts = least(least(n[5], n[6]), least(b->share, watt_curve(s, mean)));
     watts = least(watts, rating_beside[vars < 0 ? -vars : vars]);
-    report(band ? MANDATORY : b->ramp < s->ramp ? ENTERING : CONTINUOUS, bits, b->share, watts, vars);
+    /* A return comes here recovered, and is not counted. */
+    if (b->recovery < RECOVERY_TOP) watts = least(watts, RECOVERY_STEP * ++b->recovery);
+    report(band ? MANDATORY : b->ramp < s->ramp ? ENTERING : CONTINUOUS, bits, b->share, b->recovery, watts, vars);
     return 0;
 }
 

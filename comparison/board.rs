@@ -1,6 +1,7 @@
 //! The comparison program: the job of `board` (docs/SPECIFICATION.md) once more, to be held against the proved one. It was written from the
-//! paper that the board was ordered by (document 01 there) and from nothing else, by a hand that had seen neither the proved code nor its
-//! definitions nor its design. No code is shared.
+//! paper that the board was ordered by (document 01 there), then amended from the change request to it (document 02 there, request 1), and
+//! from nothing else, by a hand that had seen neither the proved code nor its definitions nor its design. No code is shared. Told beforehand
+//! was one reading of request 1, that watts are limited by the count after the step (docs/DECISIONS.md).
 //! Standard library only, one file:
 //!
 //!     rustc -O --edition 2021 board.rs            the program `board`
@@ -8,7 +9,7 @@
 //!
 //! Units: spec 1.2.
 //!
-//! Where that paper leaves something open, the choice made is marked "Decision:".
+//! Where those papers leave something open, the choice made is marked "Decision:"; what was told, "Told:".
 
 #![forbid(unsafe_code)]
 
@@ -65,6 +66,8 @@ pub struct Board {
     pub ramp: u32,
     pub watts: u16,
     pub vars: i16,
+    /// Steps since momentary or cease, 0 to 40; full when tripped (spec 6.15).
+    pub recovery: u8,
 }
 
 /// What one accepted sample gives.
@@ -74,6 +77,8 @@ pub struct Report {
     /// Eight limit bits in sheet order, then "ready".
     pub bits: [bool; 9],
     pub share: u16,
+    /// The recovery count after the step.
+    pub recovery: u8,
     pub watts: u16,
     pub vars: i16,
 }
@@ -342,7 +347,7 @@ fn curve(points: &[Point], voltage: u32) -> i64 {
     i64::from(last.power)
 }
 
-/// The largest whole p with p² + vars² at most 100,000,000; vars are -10000 to 10000.
+/// What the rating leaves beside vars (-10000 to 10000): the largest p that keeps p² + vars² to 100,000,000.
 fn watts_beside(vars: i64) -> i64 {
     i64::from(square_root((100_000_000 - vars * vars) as u32))
 }
@@ -409,15 +414,22 @@ fn count(before: u32, top: u32, again: bool) -> u32 {
     }
 }
 
-/// A fresh board: tripped, with everything 0.
+/// The full recovery count.
+const RECOVERY_TOP: u8 = 40;
+
+/// A fresh board: tripped, the recovery count full, everything else 0.
 pub fn fresh() -> Board {
-    Board { status: TRIPPED, counters: [0; 9], ramp: 0, watts: 0, vars: 0 }
+    Board {
+        status: TRIPPED, counters: [0; 9], ramp: 0, watts: 0, vars: 0, recovery: RECOVERY_TOP,
+    }
 }
 
 /// The report of a fresh board, before any sample.
 #[allow(dead_code)] // the program reports samples only
 pub fn fresh_report() -> Report {
-    Report { status: TRIPPED, bits: [false; 9], share: 0, watts: 0, vars: 0 }
+    Report {
+        status: TRIPPED, bits: [false; 9], share: 0, recovery: RECOVERY_TOP, watts: 0, vars: 0,
+    }
 }
 
 /// One step of the board: updates the lent record and gives the report, or gives the
@@ -487,12 +499,26 @@ pub fn step(board: &mut Board, settings: &Settings, sample: &[u32]) -> Result<Re
     // Spec 6.14: share.
     let share = 10000 * i64::from(ramp) / i64::from(settings.ramp);
 
-    // Spec 7: vars and watts.
+    // Spec 6.15: the recovery count. It runs only where the board was and stays in service;
+    // a tripped record's own count is not read, and `count` takes one above 40 as 40 (5.4).
+    // A return is always in the continuous band, since no row lets "volts" or "hertz" leave it.
+    let recovery = if in_service_before && in_service {
+        let again = band < Band::Momentary;
+        count(u32::from(board.recovery), u32::from(RECOVERY_TOP), again) as u8
+    } else {
+        RECOVERY_TOP
+    };
+
+    // Spec 7: vars and watts. 7.7: the recovery count limits watts.
+    // Told: the count is taken as this step leaves it, as share takes the ramp count. The
+    // first step out of momentary or cease may thus give 250, and the fortieth all.
+    let recovered = 10000 * i64::from(recovery) / i64::from(RECOVERY_TOP);
     let (watts, vars) = if (ENTERING..=MANDATORY).contains(&status) {
         let vars = curve(&settings.var, mean);
         let watts = i64::from(available)
             .min(i64::from(limit))
             .min(share)
+            .min(recovered)
             .min(curve(&settings.watt, mean))
             .min(watts_beside(vars));
         (watts, vars)
@@ -502,17 +528,17 @@ pub fn step(board: &mut Board, settings: &Settings, sample: &[u32]) -> Result<Re
 
     // All of these are at most 10000 in size.
     let (share, watts, vars) = (share as u16, watts as u16, vars as i16);
-    *board = Board { status, counters, ramp, watts, vars };
-    Ok(Report { status, bits, share, watts, vars })
+    *board = Board { status, counters, ramp, watts, vars, recovery };
+    Ok(Report { status, bits, share, recovery, watts, vars })
 }
 
 // ---------------------------------------------------------------------------
 // The image
 // ---------------------------------------------------------------------------
 
-pub const IMAGE_SIZE: usize = 45;
+pub const IMAGE_SIZE: usize = 46;
 
-/// Saves the record's image, its fields as they are, in the first 45 bytes of the buffer.
+/// Saves the record's image, its fields as they are, in the first 46 bytes of the buffer.
 pub fn save(board: &Board, buffer: &mut [u8]) -> Result<(), u8> {
     if buffer.len() < IMAGE_SIZE {
         return Err(IMAGE_BUFFER);
@@ -524,6 +550,7 @@ pub fn save(board: &Board, buffer: &mut [u8]) -> Result<(), u8> {
     buffer[37..41].copy_from_slice(&board.ramp.to_be_bytes());
     buffer[41..43].copy_from_slice(&board.watts.to_be_bytes());
     buffer[43..45].copy_from_slice(&board.vars.to_be_bytes());
+    buffer[45] = board.recovery; // spec 9.1
     Ok(())
 }
 
@@ -566,7 +593,8 @@ fn binary(bits: &[bool; 9]) -> u16 {
 fn report_line(report: &Report) -> String {
     let word = STATUS_WORDS[usize::from(report.status)];
     let bits = binary(&report.bits);
-    format!("(report {} {:09b} {} {} {})\n", word, bits, report.share, report.watts, report.vars)
+    let Report { share, recovery, watts, vars, .. } = *report;
+    format!("(report {} {:09b} {} {} {} {})\n", word, bits, share, recovery, watts, vars)
 }
 
 fn refused_line(number: u8, line_number: u64) -> String {
@@ -712,6 +740,8 @@ fn numbers(words: &[&str]) -> Vec<i64> {
 
 /// Answers one call.
 /// Decision: STATUS is the number of the status, as in the record; hex digits are small.
+/// Decision: the recovery count is the fourteenth and last number of a `record` call, as in
+/// the image; in the answer to a `step` call it stands as in a report line.
 fn answer_call(call: &str, board: &mut Board, settings: &mut Settings) -> String {
     let words: Vec<&str> = call.split_ascii_whitespace().collect();
     match words[0] {
@@ -721,13 +751,14 @@ fn answer_call(call: &str, board: &mut Board, settings: &mut Settings) -> String
         }
         "record" => {
             let numbers = numbers(&words[1..]);
-            assert_eq!(numbers.len(), 13, "numbers of a record");
+            assert_eq!(numbers.len(), 14, "numbers of a record");
             *board = Board {
                 status: u8::try_from(numbers[0]).expect("status"),
                 counters: std::array::from_fn(|i| u32::try_from(numbers[1 + i]).expect("counter")),
                 ramp: u32::try_from(numbers[10]).expect("ramp"),
                 watts: u16::try_from(numbers[11]).expect("watts"),
                 vars: i16::try_from(numbers[12]).expect("vars"),
+                recovery: u8::try_from(numbers[13]).expect("recovery"),
             };
             "ok".to_string()
         }
@@ -743,14 +774,17 @@ fn answer_call(call: &str, board: &mut Board, settings: &mut Settings) -> String
             let sample: Vec<u32> =
                 numbers(&words[1..]).iter().map(|&n| u32::try_from(n).expect("u32")).collect();
             let answer = match step(board, settings, &sample) {
-                Ok(Report { status, bits, share, watts, vars }) => {
+                Ok(Report { status, bits, share, recovery, watts, vars }) => {
                     let bits = binary(&bits);
-                    format!("report {} {:09b} {} {} {}", status, bits, share, watts, vars)
+                    format!(
+                        "report {} {:09b} {} {} {} {}",
+                        status, bits, share, recovery, watts, vars
+                    )
                 }
                 Err(number) => format!("refused {}", number),
             };
             let mut image = [0; IMAGE_SIZE];
-            save(board, &mut image).expect("45 bytes hold an image");
+            save(board, &mut image).expect("46 bytes hold an image");
             format!("{} {}", answer, hex(&image))
         }
         "save" => {
@@ -840,15 +874,22 @@ mod tests {
 ";
 
     const LISTING_ANSWERS: &str = "\
-(report entering 000000001 0 0 0)
-(report entering 000000001 100 100 0)
-(report cease 000000000 100 0 0)
+(report entering 000000001 0 40 0 0)
+(report entering 000000001 100 40 100 0)
+(report cease 000000000 100 0 0 0)
 (refused 4 17)
-(report tripped 000000000 0 0 0)
+(report tripped 000000000 0 40 0 0)
 ";
 
     const GOOD: &str = "(at (1000 1000 1000) 60000 1 10000 10000)\n";
     const NORMAL: [u32; 7] = [1000, 1000, 1000, 60000, 1, 10000, 10000];
+    const NO_PERMISSION: [u32; 7] = [1000, 1000, 1000, 60000, 0, 10000, 10000];
+    /// Mandatory by its frequency alone: vars 0, no limit of the default sheet broken.
+    const LOW_HERTZ: [u32; 7] = [1000, 1000, 1000, 58799, 1, 10000, 10000];
+    /// Momentary below and above, and cease.
+    const LOW_DIP: [u32; 7] = [1000, 249, 1000, 60000, 1, 10000, 10000];
+    const HIGH_SWELL: [u32; 7] = [1000, 1000, 1211, 60000, 1, 10000, 10000];
+    const TOO_HIGH: [u32; 7] = [1441, 1000, 1000, 60000, 1, 10000, 10000];
 
     /// The default sheet with line `number` (from 1) put in place of its own.
     fn sheet_with(number: usize, line: &str) -> String {
@@ -1032,7 +1073,7 @@ mod tests {
     }
 
     #[test]
-    fn watts_are_the_least_of_five() {
+    fn watts_are_the_least_of_six() {
         let settings = quick_settings();
         let watts = |ramp: u32, sample: [u32; 7]| {
             let report = step(&mut in_service(ramp), &settings, &sample).unwrap();
@@ -1046,6 +1087,24 @@ mod tests {
         assert_eq!(watts(100, [1180, 1180, 1180, 60000, 1, 10000, 10000]), (4760, -4400));
         // 841: 9170; vars 4400 leave 8979.
         assert_eq!(watts(100, [841, 841, 841, 60000, 1, 10000, 10000]), (8979, 4400));
+        // The recovery count, beside each of the others.
+        let watts = |ramp: u32, recovery: u8, sample: [u32; 7]| {
+            let mut board = Board { recovery, ..in_service(ramp) };
+            let report = step(&mut board, &settings, &sample).unwrap();
+            (report.watts, report.vars)
+        };
+        assert_eq!(watts(100, 0, NORMAL), (250, 0));
+        assert_eq!(watts(100, 27, [1000, 1000, 1000, 60000, 1, 7001, 10000]), (7000, 0));
+        assert_eq!(watts(100, 27, [1000, 1000, 1000, 60000, 1, 6999, 10000]), (6999, 0));
+        assert_eq!(watts(100, 27, [1000, 1000, 1000, 60000, 1, 10000, 7001]), (7000, 0));
+        assert_eq!(watts(100, 27, [1000, 1000, 1000, 60000, 1, 10000, 6999]), (6999, 0));
+        assert_eq!(watts(29, 10, NORMAL), (2750, 0));
+        assert_eq!(watts(29, 11, NORMAL), (3000, 0));
+        assert_eq!(watts(29, 12, NORMAL), (3000, 0));
+        assert_eq!(watts(100, 18, [1180, 1180, 1180, 60000, 1, 10000, 10000]), (4750, -4400));
+        assert_eq!(watts(100, 19, [1180, 1180, 1180, 60000, 1, 10000, 10000]), (4760, -4400));
+        assert_eq!(watts(100, 34, [841, 841, 841, 60000, 1, 10000, 10000]), (8750, 4400));
+        assert_eq!(watts(100, 35, [841, 841, 841, 60000, 1, 10000, 10000]), (8979, 4400));
     }
 
     #[test]
@@ -1165,7 +1224,7 @@ mod tests {
         ];
         for line in lines {
             let samples = format!("{}\n{}", line, GOOD);
-            let expected = "(refused 8 14)\n(report entering 000000001 0 0 0)\n";
+            let expected = "(refused 8 14)\n(report entering 000000001 0 40 0 0)\n";
             assert_eq!(after_quick_sheet(&samples), expected, "{:?}", line);
         }
     }
@@ -1188,8 +1247,8 @@ mod tests {
         for (line, number) in refusals {
             let samples = format!("{}{}\n{}", GOOD, line, GOOD);
             let expected = format!(
-                "(report entering 000000001 0 0 0)\n(refused {} 15)\n\
-                 (report entering 000000001 100 100 0)\n",
+                "(report entering 000000001 0 40 0 0)\n(refused {} 15)\n\
+                 (report entering 000000001 100 40 100 0)\n",
                 number
             );
             assert_eq!(after_quick_sheet(&samples), expected, "{}", line);
@@ -1202,7 +1261,7 @@ mod tests {
         for size in [1, 32, 33, 34, 73, 74, 75, 1000, BLOCK_SIZE - 1, BLOCK_SIZE, 3 * BLOCK_SIZE] {
             let long = format!("{}{}", GOOD.trim_end(), " ".repeat(size));
             let samples = format!("{}\n{}{}", long, GOOD, long);
-            let expected = "(refused 8 14)\n(report entering 000000001 0 0 0)\n(refused 8 16)\n";
+            let expected = "(refused 8 14)\n(report entering 000000001 0 40 0 0)\n(refused 8 16)\n";
             assert_eq!(after_quick_sheet(&samples), expected);
             for end in ["", "\n"] {
                 let sheet = sheet_with(2, &format!("(trip (uv2 5000 200)){}", " ".repeat(size)));
@@ -1233,8 +1292,9 @@ mod tests {
         let answers = after_quick_sheet(&samples);
         let lines: Vec<&str> = answers.lines().collect();
         assert_eq!(lines.len(), 5000);
-        assert_eq!(lines[99], "(report entering 000000001 9900 9900 0)");
-        assert!(lines[100..].iter().all(|l| *l == "(report continuous 000000001 10000 10000 0)"));
+        assert_eq!(lines[99], "(report entering 000000001 9900 40 9900 0)");
+        let full = "(report continuous 000000001 10000 40 10000 0)";
+        assert!(lines[100..].iter().all(|line| *line == full));
     }
 
     #[test]
@@ -1243,7 +1303,7 @@ mod tests {
         input.extend_from_slice(b"\xff\xfe\n\0\n");
         input.extend_from_slice(GOOD.as_bytes());
         input.extend_from_slice(b"\xff");
-        let expected = "(refused 8 14)\n(refused 8 15)\n(report entering 000000001 0 0 0)\n\
+        let expected = "(refused 8 14)\n(refused 8 15)\n(report entering 000000001 0 40 0 0)\n\
                         (refused 8 17)\n";
         assert_eq!(program(input), expected);
     }
@@ -1267,7 +1327,7 @@ mod tests {
             let input = quick_sheet() + GOOD + "(at";
             let mut output = Vec::new();
             run(Failing(input.as_bytes(), kind), &mut output).unwrap();
-            assert_eq!(output, b"(report entering 000000001 0 0 0)\n(refused 8 15)\n");
+            assert_eq!(output, b"(report entering 000000001 0 40 0 0)\n(refused 8 15)\n");
             let mut output = Vec::new();
             run(Failing(b"(trip", kind), &mut output).unwrap();
             assert_eq!(output, b"(refused 1 1)\n");
@@ -1478,7 +1538,9 @@ mod tests {
     fn refusals_of_a_step_change_nothing() {
         let wild = Board {
             status: 200, counters: [u32::MAX; 9], ramp: u32::MAX, watts: u16::MAX, vars: i16::MIN,
+            recovery: u8::MAX,
         };
+        let recovering = Board { recovery: 7, ..in_service(50) };
         let refusals: [(&[u32], u8); 19] = [
             (&[], 8), (&[1000; 6], 8), (&[1000; 8], 8), (&[u32::MAX; 8], 8),
             (&[4096, 0, 0, 60000, 1, 0, 0], 4), (&[0, 4096, 0, 60000, 1, 0, 0], 4),
@@ -1491,7 +1553,7 @@ mod tests {
             (&[0, 0, 0, 39999, 2, 10001, 10001], 5), (&[4096, 0, 0, 39999, 2, 10001, 10001], 4),
         ];
         for (sample, number) in refusals {
-            for before in [fresh(), wild] {
+            for before in [fresh(), wild, recovering] {
                 let mut board = before;
                 assert_eq!(step(&mut board, &default_settings(), sample), Err(number));
                 assert_eq!(board, before);
@@ -1551,10 +1613,13 @@ mod tests {
 
     #[test]
     fn fresh_board_and_its_report() {
-        let board = Board { status: 0, counters: [0; 9], ramp: 0, watts: 0, vars: 0 };
+        let board =
+            Board { status: 0, counters: [0; 9], ramp: 0, watts: 0, vars: 0, recovery: 40 };
         assert_eq!(fresh(), board);
-        let report = Report { status: 0, bits: [false; 9], share: 0, watts: 0, vars: 0 };
+        let report =
+            Report { status: 0, bits: [false; 9], share: 0, recovery: 40, watts: 0, vars: 0 };
         assert_eq!(fresh_report(), report);
+        assert_eq!(report_line(&report), "(report tripped 000000000 0 40 0 0)\n");
     }
 
     #[test]
@@ -1701,11 +1766,228 @@ mod tests {
     fn no_permission_trips_at_once() {
         for status in ENTERING..=CEASE {
             let mut board = Board { status, ramp: 100, ..fresh() };
-            let sample = [1000, 1000, 1000, 60000, 0, 10000, 10000];
-            let report = step(&mut board, &quick_settings(), &sample).unwrap();
+            let report = step(&mut board, &quick_settings(), &NO_PERMISSION).unwrap();
             assert_eq!(report, fresh_report());
             assert_eq!(board, fresh());
         }
+    }
+
+    // --- recovery ---
+
+    /// Steps the board, checks that report, record and image show one count, and gives the
+    /// report's status, count and watts.
+    fn recovering(board: &mut Board, sample: &[u32; 7]) -> (u8, u8, u16) {
+        let report = step(board, &quick_settings(), sample).unwrap();
+        let mut image = [0xAA; 46];
+        save(board, &mut image).unwrap();
+        assert_eq!((board.recovery, image[45]), (report.recovery, report.recovery));
+        assert_eq!(board.watts, report.watts);
+        (report.status, report.recovery, report.watts)
+    }
+
+    #[test]
+    fn recovery_after_momentary_and_after_cease() {
+        for (stop, stopped) in [(LOW_DIP, MOMENTARY), (HIGH_SWELL, MOMENTARY), (TOO_HIGH, CEASE)] {
+            for stops in [1, 2, 15] {
+                let mut board = in_service(100);
+                for _ in 0..stops {
+                    assert_eq!(recovering(&mut board, &stop), (stopped, 0, 0));
+                }
+                for k in 1..=45 {
+                    let count = k.min(40);
+                    let expected = (CONTINUOUS, count, 250 * u16::from(count));
+                    assert_eq!(recovering(&mut board, &NORMAL), expected);
+                }
+            }
+        }
+    }
+
+    #[test]
+    fn recovery_in_mandatory() {
+        for stop in [LOW_DIP, TOO_HIGH] {
+            let mut board = in_service(100);
+            recovering(&mut board, &stop);
+            for k in 1..=45 {
+                let count = k.min(40);
+                let expected = (MANDATORY, count, 250 * u16::from(count));
+                assert_eq!(recovering(&mut board, &LOW_HERTZ), expected);
+            }
+            // By turns with the continuous band.
+            recovering(&mut board, &stop);
+            for k in 1..=45 {
+                let sample = if k % 2 == 0 { NORMAL } else { LOW_HERTZ };
+                let count = k.min(40);
+                let status = if k % 2 == 0 { CONTINUOUS } else { MANDATORY };
+                let expected = (status, count, 250 * u16::from(count));
+                assert_eq!(recovering(&mut board, &sample), expected);
+            }
+        }
+    }
+
+    #[test]
+    fn recovery_while_entering() {
+        let mut board = in_service(50);
+        assert_eq!(recovering(&mut board, &LOW_DIP), (MOMENTARY, 0, 0));
+        for k in 1..50 {
+            // Share is the lesser from the 34th step on: 8400 beside 8500.
+            let count = k.min(40);
+            let watts = if k < 34 { 250 * u16::from(k) } else { 5000 + 100 * u16::from(k) };
+            assert_eq!(recovering(&mut board, &NORMAL), (ENTERING, count, watts));
+        }
+        assert_eq!(recovering(&mut board, &NORMAL), (CONTINUOUS, 40, 10000));
+    }
+
+    #[test]
+    fn recovery_begins_anew_with_each_cessation() {
+        let mut board = in_service(100);
+        for k in 0..40 {
+            let stop = [LOW_DIP, HIGH_SWELL, TOO_HIGH][k % 3];
+            recovering(&mut board, &stop);
+            assert_eq!(board.recovery, 0);
+            for i in 1..=k {
+                let count = i as u8;
+                let expected = (CONTINUOUS, count, 250 * u16::from(count));
+                assert_eq!(recovering(&mut board, &NORMAL), expected);
+            }
+        }
+        assert_eq!(recovering(&mut board, &TOO_HIGH), (CEASE, 0, 0));
+        assert_eq!(recovering(&mut board, &HIGH_SWELL), (MOMENTARY, 0, 0));
+        assert_eq!(recovering(&mut board, &TOO_HIGH), (CEASE, 0, 0));
+        assert_eq!(recovering(&mut board, &NORMAL), (CONTINUOUS, 1, 250));
+    }
+
+    #[test]
+    fn recovery_limits_watts_and_no_vars() {
+        // 841: 9170, vars 4400. They are 0 in the cessation and whole right after it.
+        let mut board = in_service(100);
+        let report = step(&mut board, &quick_settings(), &TOO_HIGH).unwrap();
+        assert_eq!((report.recovery, report.watts, report.vars), (0, 0, 0));
+        let sample = [841, 841, 841, 60000, 1, 10000, 10000];
+        for k in 1..=41 {
+            let report = step(&mut board, &quick_settings(), &sample).unwrap();
+            let watts = (250 * k.min(40)).min(8979);
+            assert_eq!((report.watts, report.vars, report.share), (watts, 4400, 10000));
+        }
+    }
+
+    #[test]
+    fn a_trip_in_the_middle_of_recovery() {
+        // By permission, in each band.
+        for stop in [LOW_DIP, TOO_HIGH] {
+            for k in 0..=40 {
+                for mut trip in [NORMAL, LOW_HERTZ, LOW_DIP, TOO_HIGH] {
+                    trip[4] = 0;
+                    let mut board = in_service(100);
+                    recovering(&mut board, &stop);
+                    for _ in 0..k {
+                        recovering(&mut board, &NORMAL);
+                    }
+                    assert_eq!(board.recovery, k);
+                    assert_eq!(recovering(&mut board, &trip), (TRIPPED, 40, 0));
+                    assert_eq!(recovering(&mut board, &trip), (TRIPPED, 40, 0));
+                    // And back.
+                    assert_eq!(recovering(&mut board, &NORMAL), (ENTERING, 40, 0));
+                    assert_eq!(recovering(&mut board, &NORMAL), (ENTERING, 40, 100));
+                }
+            }
+        }
+    }
+
+    #[test]
+    fn a_trip_by_a_limit_in_cease() {
+        let mut board = in_service(100);
+        for _ in 1..=15 {
+            assert_eq!(recovering(&mut board, &TOO_HIGH), (CEASE, 0, 0));
+        }
+        for _ in 16..20 {
+            assert_eq!(recovering(&mut board, &TOO_HIGH), (TRIPPED, 40, 0));
+        }
+        assert_eq!(recovering(&mut board, &LOW_DIP), (TRIPPED, 40, 0));
+        assert_eq!(recovering(&mut board, &NORMAL), (ENTERING, 40, 0));
+    }
+
+    #[test]
+    fn a_return_has_recovered() {
+        // The tripped record's own count plays no part, whether the board stays out or returns.
+        for status in [0, 6, 255] {
+            for recovery in 0..=255 {
+                let lent = Board { status, recovery, ..fresh() };
+                for sample in [NO_PERMISSION, LOW_HERTZ, LOW_DIP, TOO_HIGH] {
+                    assert_eq!(recovering(&mut lent.clone(), &sample), (TRIPPED, 40, 0));
+                }
+                let mut board = lent;
+                assert_eq!(recovering(&mut board, &NORMAL), (ENTERING, 40, 0));
+                for k in 1..=3 {
+                    assert_eq!(recovering(&mut board, &NORMAL), (ENTERING, 40, 100 * k));
+                }
+            }
+        }
+        // A cessation right after the return counts from 0 like any other.
+        let mut board = fresh();
+        assert_eq!(recovering(&mut board, &NORMAL), (ENTERING, 40, 0));
+        assert_eq!(recovering(&mut board, &LOW_DIP), (MOMENTARY, 0, 0));
+        assert_eq!(recovering(&mut board, &NORMAL), (ENTERING, 1, 100));
+    }
+
+    #[test]
+    fn a_return_is_always_in_the_continuous_band() {
+        // The widest "volts" and "hertz" that the rows let pass.
+        let settings = Settings {
+            volts: Range { low: 8800, high: 10600 },
+            hertz: Range { low: 59000, high: 61000 },
+            ..quick_settings()
+        };
+        assert_eq!(check_settings(&settings), Ok(()));
+        for code in 0..4096 {
+            for frequency in [58799, 58800, 58999, 59000, 61000, 61001, 61200, 61201] {
+                let sample = [code, 1000, 1000, frequency, 1, 10000, 10000];
+                let report = step(&mut fresh(), &settings, &sample).unwrap();
+                assert!(report.status == TRIPPED || report.status == ENTERING);
+                assert_eq!((report.recovery, report.watts), (40, 0));
+            }
+        }
+    }
+
+    #[test]
+    fn a_refused_sample_leaves_recovery() {
+        let mut board = in_service(100);
+        recovering(&mut board, &TOO_HIGH);
+        for k in 1..=40 {
+            let before = board;
+            let no_ramp = Settings { ramp: 0, ..quick_settings() };
+            assert_eq!(step(&mut board, &quick_settings(), &[4096, 0, 0, 60000, 1, 0, 0]), Err(4));
+            assert_eq!(step(&mut board, &no_ramp, &NORMAL), Err(2));
+            assert_eq!(board, before);
+            assert_eq!(recovering(&mut board, &NORMAL), (CONTINUOUS, k, 250 * u16::from(k)));
+        }
+    }
+
+    #[test]
+    fn recovery_in_the_program() {
+        let good = GOOD.repeat(101);
+        let samples = good
+            + "(at (1000 1000 1211) 60000 1 10000 10000)\n"
+            + GOOD
+            + "(at (1000 1000 1000) 58799 1 10000 10000)\n(at)\n"
+            + &GOOD.repeat(39);
+        let answers = after_quick_sheet(&samples);
+        let lines: Vec<&str> = answers.lines().skip(100).collect();
+        assert_eq!(lines.len(), 44);
+        let expected = [
+            "(report continuous 000000001 10000 40 10000 0)",
+            "(report momentary 000000000 10000 0 0 0)",
+            "(report continuous 000000001 10000 1 250 0)",
+            "(report mandatory 000000000 10000 2 500 0)",
+            "(refused 8 118)",
+            "(report continuous 000000001 10000 3 750 0)",
+        ];
+        assert_eq!(lines[..6], expected);
+        let expected = [
+            "(report continuous 000000001 10000 39 9750 0)",
+            "(report continuous 000000001 10000 40 10000 0)",
+            "(report continuous 000000001 10000 40 10000 0)",
+        ];
+        assert_eq!(lines[41..], expected);
     }
 
     // --- wild records ---
@@ -1753,6 +2035,29 @@ mod tests {
         }
     }
 
+    #[test]
+    fn wild_recovery_is_read_as_40() {
+        for status in ENTERING..=CEASE {
+            for recovery in 0..=255 {
+                let lent = Board { status, recovery, ..in_service(100) };
+                let count = if recovery < 40 { recovery + 1 } else { 40 };
+                let watts = 250 * u16::from(count);
+                let expected = [
+                    (NORMAL, (CONTINUOUS, count, watts)), (LOW_HERTZ, (MANDATORY, count, watts)),
+                    (LOW_DIP, (MOMENTARY, 0, 0)), (HIGH_SWELL, (MOMENTARY, 0, 0)),
+                    (TOO_HIGH, (CEASE, 0, 0)), (NO_PERMISSION, (TRIPPED, 40, 0)),
+                ];
+                for (sample, answer) in expected {
+                    assert_eq!(recovering(&mut lent.clone(), &sample), answer);
+                }
+            }
+            for recovery in [40, 41, 255] {
+                let mut board = Board { status, recovery, ..in_service(100) };
+                assert_eq!(recovering(&mut board, &NORMAL), (CONTINUOUS, 40, 10000));
+            }
+        }
+    }
+
     // --- the image ---
 
     #[test]
@@ -1763,20 +2068,35 @@ mod tests {
             ramp: 0x0A0B0C0D,
             watts: 0xFEDC,
             vars: -2,
+            recovery: 0x27,
         };
         let expected = "f10102030400000001000000020000000300000004000000050000000600000007\
-                        ffffffff0a0b0c0dfedcfffe";
-        for size in [45, 46, 100] {
+                        ffffffff0a0b0c0dfedcfffe27";
+        for size in [46, 47, 100] {
             let mut buffer = vec![0xAA; size];
             assert_eq!(save(&board, &mut buffer), Ok(()));
-            assert_eq!(hex(&buffer[..45]), expected);
-            assert!(buffer[45..].iter().all(|&byte| byte == 0xAA));
+            assert_eq!(hex(&buffer[..46]), expected);
+            assert!(buffer[46..].iter().all(|&byte| byte == 0xAA));
         }
     }
 
     #[test]
-    fn image_buffer_under_45_bytes() {
-        for size in [0, 1, 44] {
+    fn last_byte_of_the_image() {
+        let mut fresh_image = [0xAA; 46];
+        assert_eq!(save(&fresh(), &mut fresh_image), Ok(()));
+        assert_eq!((&fresh_image[..45], fresh_image[45]), (&[0; 45][..], 40));
+        // As it is, above 40 too; no other byte moves with it.
+        for recovery in 0..=255 {
+            let mut image = [0xAA; 47];
+            assert_eq!(save(&Board { recovery, ..fresh() }, &mut image), Ok(()));
+            assert_eq!(image[..45], fresh_image[..45]);
+            assert_eq!(image[45..], [recovery, 0xAA]);
+        }
+    }
+
+    #[test]
+    fn image_buffer_under_46_bytes() {
+        for size in [0, 1, 44, 45] {
             let mut buffer = vec![0xAA; size];
             assert_eq!(save(&fresh(), &mut buffer), Err(9));
             assert!(buffer.iter().all(|&byte| byte == 0xAA));
@@ -1790,18 +2110,19 @@ mod tests {
         let settings: String =
             quick_settings().pairs().iter().map(|(a, b)| format!(" {} {}", a, b)).collect();
         let input = format!(
-            "settings{}\nstep 1000 1000 1000 60000 1 10000 10000\nstep\nsave 45\nsave 46\nsave 2\n\
-             save 0\nrecord 255 1 2 3 4 5 6 7 8 4294967295 9 65535 -32768\nsave 45\nfresh\n\
+            "settings{}\nstep 1000 1000 1000 60000 1 10000 10000\nstep\nsave 46\nsave 47\nsave 45\n\
+             save 0\nrecord 255 1 2 3 4 5 6 7 8 4294967295 9 65535 -32768 254\nsave 46\nfresh\n\
              step 4096 0 0 60000 1 0 0\n",
             settings
         );
-        let entered = format!("01{}{}", "00000000".repeat(8), "000000010000000000000000");
+        let entered = format!("01{}{}", "00000000".repeat(8), "00000001000000000000000028");
         let zero = "00".repeat(45);
+        let untouched = "aa".repeat(45);
         let expected = format!(
-            "ok\nreport 1 000000001 0 0 0 {entered}\nrefused 8 {entered}\nsaved {entered}\n\
-             saved {entered}aa\nrefused 9 aaaa\nrefused 9 \nok\n\
+            "ok\nreport 1 000000001 0 40 0 0 {entered}\nrefused 8 {entered}\nsaved {entered}\n\
+             saved {entered}aa\nrefused 9 {untouched}\nrefused 9 \nok\n\
              saved ff0000000100000002000000030000000400000005000000060000000700000008\
-             ffffffff00000009ffff8000\nok\nrefused 4 {zero}\n"
+             ffffffff00000009ffff8000fe\nok\nrefused 4 {zero}28\n"
         );
         let mut output = Vec::new();
         run_calls(input.as_bytes(), &mut output).unwrap();

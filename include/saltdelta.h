@@ -20,7 +20,7 @@
  *     6  permission not 0 or 1
  *     7  available power or operator's limit above 10000
  *     8  sample not of seven numbers
- *     9  image buffer under 45 bytes
+ *     9  image buffer under 46 bytes
  *
  * A sheet's lines are checked in order, each for 1, 2, 3; a step for 2 and 3 in sheet order, then for 8, 4, 5, 6, 7; a replay for 2 and 3 in
  * sheet order, then for 9. A refused call writes nothing at all: every byte that was lent to it stays as it was, of a struct its bytes of
@@ -83,8 +83,11 @@ enum {
     SALTDELTA_READY = 8
 };
 
-/* The image of a record, in bytes. */
-#define SALTDELTA_IMAGE 45
+/* The image of a record, in bytes (spec 9.1). */
+#define SALTDELTA_IMAGE 46
+
+/* A full recovery count: power is back (spec 6.15). */
+#define SALTDELTA_RECOVERY_TOP 40
 
 /* A trip line of the sheet: a voltage or frequency limit, and its clearing time. */
 typedef struct {
@@ -116,9 +119,10 @@ typedef struct {
 } saltdelta_settings;
 
 /* The board record, which the caller keeps from step to step. Any numbers may stand in it; spec 5.4 says how they are read: what is above
- * its top as the top, a status without a name as tripped. */
+ * its top as the top, a status without a name as tripped. The recovery count of a tripped board is not looked at. */
 typedef struct {
     uint8_t status;
+    uint8_t recovery;     /* 0 in momentary cessation and cease, then one more a step up to 40; 40 when tripped, and at a return (spec 6.15) */
     uint32_t counters[9]; /* for how many steps each limit has been broken, up to its clearing time; then the ninth */
     uint32_t ramp;        /* ramp count */
     uint16_t watts;
@@ -129,8 +133,9 @@ typedef struct {
  * bits >> (8 - SALTDELTA_UV2) & 1 is uv2's. A limit's bit is 1 when its counter is full. */
 typedef struct {
     uint8_t status;
+    uint8_t recovery; /* the record's after the step; watts are at most 250 times it (spec 7.7) */
     uint16_t bits;
-    uint16_t share; /* ramp count by ramp length, in ten-thousandths */
+    uint16_t share;   /* ramp count by ramp length, in ten-thousandths */
     uint16_t watts;
     int16_t vars;
 } saltdelta_report;
@@ -150,10 +155,10 @@ typedef struct {
     size_t accepted; /* how many of the samples were accepted; 0 when the replay is refused */
 } saltdelta_replayed;
 
-/* A fresh board: tripped, with all counters, ramp count, watts and vars 0. */
+/* A fresh board: tripped, with all counters, ramp count, watts and vars 0, and recovery 40. */
 saltdelta_board saltdelta_fresh(void);
 
-/* The report of a fresh board, before its first sample: tripped, with all bits, share, watts and vars 0. */
+/* The report of a fresh board, before its first sample: tripped, with all bits, share, watts and vars 0, and recovery 40. */
 saltdelta_report saltdelta_fresh_report(void);
 
 /* Reads the sheet at the front of `length` lent bytes into `settings`. Bytes past its thirteenth line are not the sheet's. */
@@ -165,12 +170,12 @@ saltdelta_sheet saltdelta_read_sheet(saltdelta_settings *settings, const uint8_t
 uint32_t saltdelta_step(saltdelta_board *board, const saltdelta_settings *settings, const uint32_t *sample, size_t count,
                         saltdelta_report *report);
 
-/* Saves the record's image in the first 45 of `length` lent bytes, high byte first: status (1 byte), the nine counters (4 each), ramp
- * count (4), watts (2), vars (2, two's complement), each as it is. The bytes after it are untouched. */
+/* Saves the record's image in the first 46 of `length` lent bytes, high byte first: status (1 byte), the nine counters (4 each), ramp
+ * count (4), watts (2), vars (2, two's complement), recovery (1), each as it is. The bytes after it are untouched. */
 uint32_t saltdelta_save(const saltdelta_board *board, uint8_t *buffer, size_t length);
 
 /* Replays recorded samples: `count` numbers, seven a sample, step a fresh record one sample after another under the same settings. Writes
- * the last report, or the fresh board's if no sample is accepted, and saves the record's image in the first 45 of `length` lent bytes. A sample
+ * the last report, or the fresh board's if no sample is accepted, and saves the record's image in the first 46 of `length` lent bytes. A sample
  * that is refused, as a last one of fewer than seven numbers is, is no step and does not refuse the replay. */
 saltdelta_replayed saltdelta_replay(const saltdelta_settings *settings, const uint32_t *samples, size_t count, saltdelta_report *report,
                                     uint8_t *buffer, size_t length);

@@ -2,7 +2,7 @@
 # The library: libsaltdelta.a is made, proofs checked, and called from C and from Rust; both are held against the comparison program.
 # A pass is a case: a run of calls that all agree with it (a board's life, or a hundred calls), a sheet that C reads as the specification says, a
 # replay that is what its steps one by one are, or a refused call of C's that writes no byte of what is lent to it, padding included. Rust's
-# calls are held to that too.
+# calls are held to that too. Each way in which the recovery count moves is a case as well: reached a hundred times, from C and from Rust.
 set -u
 cd "$(dirname "$0")/.." || exit 2
 out=target/library
@@ -29,7 +29,7 @@ add() {
 }
 
 "$out/check-c" "$out/calls" "$out/answers" > "$out/c-own.log" || echo "check-c ends with $?"
-add "$out/c-own.log" "C, sheets and refused calls"
+add "$out/c-own.log" "C, sheets, refused calls and recoveries"
 "$out/comparison" calls < "$out/calls" > "$out/expected"
 # a case is the calls from one `fresh` to the next
 paste -d '\t' "$out/calls" "$out/expected" "$out/answers" | awk -F '\t' '

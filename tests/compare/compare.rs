@@ -47,7 +47,7 @@ impl Input {
 pub type Sink<'a> = &'a mut dyn FnMut(Input);
 
 /// The kinds of inputs, quick ones first.
-const MAKERS: [fn(Sink); 17] = [
+const MAKERS: [fn(Sink); 18] = [
     runs::sample_numbers,
     runs::bands,
     runs::curves,
@@ -59,6 +59,7 @@ const MAKERS: [fn(Sink); 17] = [
     damage::sample_lines,
     damage::noise,
     runs::waits,
+    runs::recoveries,
     runs::drawn,
     damage::pipe_cuts,
     damage::pipe_blocks,
@@ -73,6 +74,56 @@ const REACHED_AT_LEAST: usize = 100;
 const SIGNALS_AT_MOST: usize = 3;
 const BITS: [&str; 9] = ["uv1", "uv2", "ov1", "ov2", "uf1", "uf2", "of1", "of2", "ready"];
 
+/// What a report line says of the recovery.
+#[derive(Clone, Copy)]
+struct Said {
+    status: u8,
+    recovery: usize,
+    watts: usize,
+}
+
+const FRESH: Said = Said { status: board::TRIPPED, recovery: 40, watts: 0 };
+
+impl Said {
+    fn in_service(self) -> bool {
+        self.status != board::TRIPPED
+    }
+
+    fn ceased(self) -> bool {
+        [board::MOMENTARY, board::CEASE].contains(&self.status)
+    }
+}
+
+/// In service before, in the status now, and the recovery one more.
+fn up(before: Said, now: Said, status: u8) -> bool {
+    before.in_service() && now.status == status && now.recovery == before.recovery + 1
+}
+
+/// In service before, in the status now, and the recovery from above 0 to 0.
+fn back(before: Said, now: Said, status: u8) -> bool {
+    before.in_service() && now.status == status && before.recovery > 0 && now.recovery == 0
+}
+
+/// The ways in which the recovery moves, and that it limits the watts: each told from a report and the one before it.
+const RECOVERIES: [(&str, fn(Said, Said) -> bool); 11] = [
+    ("to 0 by momentary", |before, now| back(before, now, board::MOMENTARY)),
+    ("to 0 by cease", |before, now| back(before, now, board::CEASE)),
+    ("to 0 from 1 to 39", |before, now| now.ceased() && (1..40).contains(&before.recovery) && now.recovery == 0),
+    ("held at 0", |before, now| now.ceased() && before.recovery == 0 && now.recovery == 0),
+    ("up in entering", |before, now| up(before, now, board::ENTERING)),
+    ("up in continuous", |before, now| up(before, now, board::CONTINUOUS)),
+    ("up in mandatory", |before, now| up(before, now, board::MANDATORY)),
+    ("held at 40", |before, now| before.in_service() && now.in_service() && before.recovery == 40 && now.recovery == 40),
+    ("to 40 by a trip", |before, now| before.in_service() && !now.in_service() && before.recovery < 40 && now.recovery == 40),
+    ("40 at a return", |before, now| !before.in_service() && now.in_service() && now.recovery == 40),
+    ("limits the watts", |_, now| now.recovery < 40 && now.watts > 0 && now.watts == 250 * now.recovery),
+];
+
+/// A number of a report line.
+fn number(word: &[u8]) -> usize {
+    std::str::from_utf8(word).ok().and_then(|digits| digits.parse().ok()).expect("a number")
+}
+
 /// What the inputs reached, counted in what both programs wrote.
 #[derive(Default)]
 struct Reached {
@@ -82,6 +133,7 @@ struct Reached {
     statuses: [usize; 6],
     refusals: [usize; 8],
     bits: [usize; 9],
+    recoveries: [usize; RECOVERIES.len()],
 }
 
 impl Reached {
@@ -95,17 +147,23 @@ impl Reached {
     }
 
     fn output(&mut self, output: &[u8]) {
+        let mut before = FRESH;
         for line in output.split(|&byte| byte == b'\n').filter(|line| !line.is_empty()) {
             let words: Vec<&[u8]> = line.split(|&byte| byte == b' ').collect();
             if words[0] == b"(refused" {
                 self.refusals[usize::from(words[1][0] - b'1')] += 1;
                 continue;
             }
-            let status = board::STATUS_WORDS.iter().position(|word| word.as_bytes() == words[1]);
-            self.statuses[status.expect("a status word")] += 1;
+            let status = board::STATUS_WORDS.iter().position(|word| word.as_bytes() == words[1]).expect("a status word");
+            self.statuses[status] += 1;
             for (count, &bit) in self.bits.iter_mut().zip(words[2]) {
                 *count += usize::from(bit == b'1');
             }
+            let now = Said { status: status as u8, recovery: number(words[4]), watts: number(words[5]) };
+            for (count, (_, shown)) in self.recoveries.iter_mut().zip(RECOVERIES) {
+                *count += usize::from(shown(before, now));
+            }
+            before = now;
         }
     }
 
@@ -117,6 +175,7 @@ impl Reached {
         let mut things = named(&board::STATUS_WORDS, &self.statuses);
         things.extend((1..=8).map(|number| (format!("refused {number}"), self.refusals[number - 1])));
         things.extend(named(&BITS, &self.bits).into_iter().map(|(name, count)| (format!("bit {name}"), count)));
+        things.extend(RECOVERIES.iter().zip(self.recoveries).map(|((name, _), count)| (format!("recovery {name}"), count)));
         things
     }
 }

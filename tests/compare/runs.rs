@@ -328,6 +328,89 @@ pub fn bands(sink: Sink) {
     }
 }
 
+/// Codes that stop power: momentary cessation below and above, and cease.
+const STOPPING: [u32; 6] = [0, 249, 1211, 1440, 1441, 4095];
+
+/// Recoveries after cessations of every kind: of each length from 1 to 60 steps, cut short by the next one and by a trip; then drawn ones.
+pub fn recoveries(sink: Sink) {
+    for length in 1..=60 {
+        recoveries_of(length, sink);
+    }
+    for seed in 0..150 {
+        let mut draws = Draws::new(8_000_000 + seed);
+        let sheet = Sheet::lively(&mut draws);
+        let sheet = sheet.with_wait(draws.pick(&[0, 1, 3]), draws.pick(&[100, 101, 300]));
+        let mut run = Run::new(&sheet);
+        let ramp = sheet.ramp();
+        run.enter(draws.pick(&[0, 1, ramp / 2, ramp - 20, ramp, ramp + 5]));
+        for _ in 0..draws.between(4, 20) {
+            cessation(&mut run, &mut draws);
+            recovery(&mut run, &mut draws);
+        }
+        run.done("recoveries", format!("seed {seed}"), sink);
+    }
+}
+
+/// Recoveries of one length, the ramp full or not: normal ones and mandatory ones, each cut by the next cessation; then such as a trip cuts.
+fn recoveries_of(length: usize, sink: Sink) {
+    let sheet = DEFAULT.with_wait(length as i64 % 3, 100);
+    let mut run = Run::new(&sheet);
+    run.enter(if length % 2 == 0 { 100 } else { length });
+    for (i, code) in STOPPING.into_iter().enumerate() {
+        run.phase(i % 3, code, 1 + i % 2);
+        run.normal(length);
+    }
+    for (i, code) in STOPPING.into_iter().enumerate() {
+        run.phase(i % 3, code, 1);
+        run.phase((i + 1) % 3, 774, length);
+    }
+    for code in STOPPING {
+        run.phase(0, code, 1);
+        run.frequency(58799, length);
+        run.phase(4, 0, 1);
+        run.enter(50);
+    }
+    run.done("recoveries", format!("length {length}"), sink);
+}
+
+/// Steps in one band that stops power, or in one after the other; at times as many as trip.
+fn cessation(run: &mut Run, draws: &mut Draws) {
+    for _ in 0..draws.pick(&[1, 1, 2, 3]) {
+        run.phase(draws.below(3), draws.pick(&STOPPING), draws.pick(&[1, 1, 2, 5, 15, 16]));
+    }
+}
+
+/// A recovery of 1 to 60 steps, or one that a trip ends on its way.
+fn recovery(run: &mut Run, draws: &mut Draws) {
+    let length = draws.between(1, 60) as usize;
+    match draws.below(7) {
+        0 => run.normal(length),
+        1 => run.phase(draws.below(3), draws.pick(&[250, 500, 774]), length),
+        2 => run.frequency(draws.pick(&[58799, 61201]), length),
+        3 => {
+            for _ in 0..length {
+                run.sample([1000, 1000, 1000, 60000, 1, draws.within(0, 10000) as u32, draws.within(0, 10000) as u32], 1);
+            }
+        }
+        4 => {
+            for _ in 0..length {
+                run.phase(draws.below(3), draws.pick(&[774, 1000, 1000]), 1);
+            }
+        }
+        5 => {
+            // A sample that is refused is no step.
+            run.normal(length / 2);
+            run.phase(draws.below(3), 4096, 3);
+            run.normal(length / 2);
+        }
+        _ => {
+            run.normal(length % 40);
+            run.phase(4, 0, 1);
+            run.enter(draws.below(150));
+        }
+    }
+}
+
 /// Volt-var and volt-watt sweeps at full ramp, over the curves' points and between them.
 pub fn curves(sink: Sink) {
     for seed in 0..250 {

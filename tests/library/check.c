@@ -1,12 +1,15 @@
 /* The library from C. It makes calls from a fixed seed and writes them to one file and what the library answers to another, both in the
  * form of the comparison program's mode `calls`; tests/library.sh holds the answers against that program's. What that mode does not have
- * is checked here: the sheet of spec 3.3 and the refused lines of spec 11.1, that a replay is what its steps one by one are, and that a
- * refused call writes no byte of what is lent to it, bytes of padding among them. It prints 'N passed, M failed' for these. */
+ * is checked here: the sheet of spec 3.3 and the refused lines of spec 11.1, that a replay is what its steps one by one are, that a
+ * refused call writes no byte of what is lent to it, bytes of padding among them, and that the steps reach each way in which the recovery
+ * count moves. It prints 'N passed, M failed' for these. */
 #include <inttypes.h>
 #include <stdio.h>
 #include <string.h>
 
 #include "saltdelta.h"
+
+enum { RECOVERY_TOP = SALTDELTA_RECOVERY_TOP, REACHED_AT_LEAST = 100 };
 
 static FILE *calls, *answers;
 static int passed, failed;
@@ -30,6 +33,33 @@ static int one_in(uint32_t n) {
     return within(1, n) == 1;
 }
 
+/* ---- what is reached of the recovery */
+
+enum { BY_MOMENTARY, BY_CEASE, UP_ENTERING, UP_CONTINUOUS, UP_MANDATORY, HELD, BY_TRIP, AT_RETURN, LIMITS, ABOVE, UNREAD, WAYS };
+static const char *const ways[WAYS] = {
+    "recovery to 0 by momentary", "recovery to 0 by cease", "recovery up in entering", "recovery up in continuous",
+    "recovery up in mandatory", "recovery held at 40", "recovery to 40 by a trip", "recovery 40 at a return",
+    "recovery limits the watts", "recovery above 40 read as 40", "recovery of a tripped record not read"};
+static unsigned reached[WAYS];
+
+/* Counts the ways that a step shows: the status and the recovery lent to it, and its report. */
+static void shown(uint8_t status, uint8_t recovery, const saltdelta_report *r) {
+    const int was = status >= SALTDELTA_ENTERING && status <= SALTDELTA_CEASE, is = r->status != SALTDELTA_TRIPPED;
+    const int back = was && recovery > 0 && r->recovery == 0, up = was && recovery < RECOVERY_TOP && r->recovery == recovery + 1;
+    const int gives = is && r->status <= SALTDELTA_MANDATORY, full = r->recovery == RECOVERY_TOP;
+    reached[BY_MOMENTARY] += back && r->status == SALTDELTA_MOMENTARY;
+    reached[BY_CEASE] += back && r->status == SALTDELTA_CEASE;
+    reached[UP_ENTERING] += up && r->status == SALTDELTA_ENTERING;
+    reached[UP_CONTINUOUS] += up && r->status == SALTDELTA_CONTINUOUS;
+    reached[UP_MANDATORY] += up && r->status == SALTDELTA_MANDATORY;
+    reached[HELD] += was && gives && recovery == RECOVERY_TOP && full;
+    reached[BY_TRIP] += was && !is && recovery < RECOVERY_TOP && full;
+    reached[AT_RETURN] += !was && is && full;
+    reached[LIMITS] += !full && r->watts > 0 && r->watts == 250 * r->recovery;
+    reached[ABOVE] += was && gives && recovery > RECOVERY_TOP && full;
+    reached[UNREAD] += !was && recovery != RECOVERY_TOP && full;
+}
+
 /* ---- calls and answers, a line each */
 
 static void put_bytes(const uint8_t *bytes, size_t length) {
@@ -42,7 +72,7 @@ static void give_record(const saltdelta_board *b) {
     fprintf(calls, "record %u", b->status);
     for (int i = 0; i < 9; i++)
         fprintf(calls, " %" PRIu32, b->counters[i]);
-    fprintf(calls, " %" PRIu32 " %u %d\n", b->ramp, b->watts, b->vars);
+    fprintf(calls, " %" PRIu32 " %u %d %u\n", b->ramp, b->watts, b->vars, b->recovery);
     fputs("ok\n", answers);
 }
 
@@ -62,7 +92,8 @@ static void give_settings(const saltdelta_settings *s) {
 
 /* The report is that of the last accepted step. */
 static uint32_t step(saltdelta_board *b, const saltdelta_settings *s, const uint32_t *sample, size_t count, saltdelta_report *last) {
-    saltdelta_report r = {77, 77, 77, 77, -77};
+    const uint8_t status = b->status, recovery = b->recovery;
+    saltdelta_report r = {77, 77, 77, 77, 77, -77};
     uint8_t image[SALTDELTA_IMAGE];
     uint32_t number = saltdelta_step(b, s, sample, count, &r);
     fputs("step", calls);
@@ -73,8 +104,9 @@ static uint32_t step(saltdelta_board *b, const saltdelta_settings *s, const uint
         fprintf(answers, "report %u ", r.status);
         for (int i = SALTDELTA_UV1; i <= SALTDELTA_READY; i++)
             fputc(r.bits >> (8 - i) & 1 ? '1' : '0', answers);
-        fprintf(answers, " %u %u %d ", r.share, r.watts, r.vars);
-    } else if (r.status == 77 && r.bits == 77 && r.share == 77 && r.watts == 77 && r.vars == -77) {
+        fprintf(answers, " %u %u %u %d ", r.share, r.recovery, r.watts, r.vars);
+        shown(status, recovery, &r);
+    } else if (r.status == 77 && r.bits == 77 && r.share == 77 && r.recovery == 77 && r.watts == 77 && r.vars == -77) {
         fprintf(answers, "refused %" PRIu32 " ", number);
     } else {
         fprintf(answers, "refused %" PRIu32 " with a report ", number);
@@ -173,6 +205,8 @@ static void sheets(void) {
 
 /* ---- refused calls, byte for byte */
 
+static const uint32_t steady[7] = {1000, 1010, 990, 60000, 1, 10000, 9000};
+
 static saltdelta_settings settings_of_sheet(void) {
     char text[1024];
     saltdelta_settings s;
@@ -191,7 +225,6 @@ typedef struct {
 } lent_step;
 
 static void fill(lent_step *lent, int pattern, const saltdelta_settings *s) {
-    static const uint32_t steady[7] = {1000, 1010, 990, 60000, 1, 10000, 9000};
     memset(lent, pattern, sizeof *lent);
     lent->board.status = SALTDELTA_CONTINUOUS;
     for (int i = 0; i < 9; i++)
@@ -199,9 +232,11 @@ static void fill(lent_step *lent, int pattern, const saltdelta_settings *s) {
     lent->board.ramp = 100;
     lent->board.watts = 5000;
     lent->board.vars = -5;
+    lent->board.recovery = 7;
     lent->report.status = 77;
     lent->report.bits = 77;
     lent->report.share = 77;
+    lent->report.recovery = 77;
     lent->report.watts = 77;
     lent->report.vars = -77;
     memcpy(&lent->settings, s, sizeof *s);
@@ -269,7 +304,7 @@ static void saves_refused(void) {
         memset(&board_before, 0xA5, sizeof board_before);
         expect(saltdelta_save(&board, buffer, length) == SALTDELTA_BUFFER && memcmp(buffer, before, sizeof buffer) == 0
                    && memcmp(&board, &board_before, sizeof board) == 0,
-               "a buffer under 45 bytes");
+               "a buffer under 46 bytes");
     }
 }
 
@@ -282,7 +317,6 @@ typedef struct {
 } lent_replay;
 
 static void fill_replay(lent_replay *lent, int pattern, const saltdelta_settings *s) {
-    static const uint32_t steady[7] = {1000, 1010, 990, 60000, 1, 10000, 9000};
     memset(lent, pattern, sizeof *lent);
     memcpy(&lent->settings, s, sizeof *s);
     for (size_t i = 0; i < 24; i++)
@@ -304,7 +338,7 @@ static void replays_refused(void) {
         for (size_t length = 0; length <= sizeof lent.buffer; length++) {
             fill_replay(&lent, pattern, &s);
             if (length < SALTDELTA_IMAGE)
-                replay_refused(&lent, length, SALTDELTA_BUFFER, "a replay into a buffer under 45 bytes");
+                replay_refused(&lent, length, SALTDELTA_BUFFER, "a replay into a buffer under 46 bytes");
             lent.settings.trip[length % 8].clearing = 100001;
             replay_refused(&lent, length, SALTDELTA_RANGE, "a replay with a clearing time out of range");
             fill_replay(&lent, pattern, &s);
@@ -328,6 +362,7 @@ static saltdelta_board any_record(void) {
     b.ramp = count();
     b.watts = (uint16_t)next();
     b.vars = (int16_t)within(0, 65535);
+    b.recovery = (uint8_t)(one_in(2) ? within(0, 42) : within(0, 255));
     return b;
 }
 
@@ -355,8 +390,48 @@ static saltdelta_settings settings_read(void) {
     return s;
 }
 
+/* Steps with one sample: steady, or with one phase at an edge of mandatory operation, momentary cessation or cease. */
+static void steps(saltdelta_board *b, const saltdelta_settings *s, int dip, uint32_t times) {
+    static const uint32_t edges[8] = {0, 249, 250, 774, 1211, 1440, 1441, 4095};
+    saltdelta_report report;
+    uint32_t sample[7];
+    memcpy(sample, steady, sizeof sample);
+    if (dip)
+        sample[within(0, 2)] = edges[within(0, 7)];
+    while (times-- > 0)
+        step(b, s, sample, 7, &report);
+}
+
+/* Boards from fresh, up the ramp and on, with dips; then records in which only the counters are low, so that few of them trip. */
+static void recoveries(void) {
+    for (int i = 0; i < 30; i++) {
+        saltdelta_board b = saltdelta_fresh();
+        saltdelta_settings s = settings_read();
+        fputs("fresh\n", calls);
+        fputs("ok\n", answers);
+        give_settings(&s);
+        for (int k = 0; k < 12; k++) {
+            steps(&b, &s, 0, within(1, 60));
+            steps(&b, &s, 1, within(1, 16));
+        }
+    }
+    for (int i = 0; i < 1000; i++) {
+        saltdelta_board b = any_record();
+        saltdelta_settings s = settings_read();
+        for (int k = 0; k < 9; k++)
+            b.counters[k] = within(0, 14);
+        fputs("fresh\n", calls);
+        fputs("ok\n", answers);
+        give_settings(&s);
+        give_record(&b);
+        steps(&b, &s, one_in(2), 1);
+        steps(&b, &s, 0, within(0, 3));
+    }
+}
+
 static int same_report(const saltdelta_report *a, const saltdelta_report *b) {
-    return a->status == b->status && a->bits == b->bits && a->share == b->share && a->watts == b->watts && a->vars == b->vars;
+    return a->status == b->status && a->bits == b->bits && a->share == b->share && a->recovery == b->recovery && a->watts == b->watts
+        && a->vars == b->vars;
 }
 
 /* A recording of `count` numbers, some samples refused, is stepped one by one and then replayed: the same count of accepted samples, report
@@ -367,7 +442,7 @@ static void replay(size_t count) {
     size_t accepted = 0, length = within(SALTDELTA_IMAGE, 60);
     saltdelta_settings s = settings_read();
     saltdelta_board b = saltdelta_fresh();
-    saltdelta_report last = saltdelta_fresh_report(), report = {77, 77, 77, 77, -77};
+    saltdelta_report last = saltdelta_fresh_report(), report = {77, 77, 77, 77, 77, -77};
     saltdelta_replayed found;
     fputs("fresh\n", calls);
     fputs("ok\n", answers);
@@ -388,9 +463,15 @@ static void replay(size_t count) {
            "a replay and its steps");
 }
 
-static void fresh_report(void) {
-    const saltdelta_report r = saltdelta_fresh_report(), zeros = {SALTDELTA_TRIPPED, 0, 0, 0, 0};
-    expect(same_report(&r, &zeros), "the report of a fresh board");
+/* 0 and RECOVERY_TOP, in the record as its image shows it, and in the report. */
+static void fresh(void) {
+    const saltdelta_report r = saltdelta_fresh_report(), first = {.status = SALTDELTA_TRIPPED, .recovery = RECOVERY_TOP};
+    const saltdelta_board b = saltdelta_fresh();
+    uint8_t image[SALTDELTA_IMAGE], zeros[SALTDELTA_IMAGE] = {0};
+    expect(same_report(&r, &first), "the report of a fresh board");
+    expect(saltdelta_save(&b, image, sizeof image) == SALTDELTA_ACCEPTED && memcmp(image, zeros, SALTDELTA_IMAGE - 1) == 0
+               && image[SALTDELTA_IMAGE - 1] == RECOVERY_TOP,
+           "the image of a fresh board");
 }
 
 int main(int argc, char **argv) {
@@ -402,19 +483,19 @@ int main(int argc, char **argv) {
     steps_refused();
     saves_refused();
     replays_refused();
-    fresh_report();
+    fresh();
     for (int i = 0; i < 1000; i++) {
         saltdelta_board b = saltdelta_fresh();
         saltdelta_settings s = settings_read();
         fputs("fresh\n", calls);
         fputs("ok\n", answers);
-        save(&b, within(45, 60));
+        save(&b, within(SALTDELTA_IMAGE, 60));
         give_settings(&s);
         for (int k = 0; k < 20; k++)
             step(&b, &s, sample, any_sample(sample), &report);
         b = any_record();
         give_record(&b);
-        save(&b, (size_t)(i % 51));
+        save(&b, (size_t)(i % 52));
         if (one_in(2)) {
             s.trip[within(0, 7)].clearing = count();
             s.var[within(0, 3)].power = (int32_t)within(0, 21000) - 10500;
@@ -423,10 +504,15 @@ int main(int argc, char **argv) {
         for (int k = 0; k < 5; k++)
             step(&b, &s, sample, any_sample(sample), &report);
     }
+    recoveries();
     for (size_t count = 0; count <= 350; count++)
         replay(count);
     if (fclose(calls) != 0 || fclose(answers) != 0)
         return 2;
+    for (int i = 0; i < WAYS; i++) {
+        printf("%9u  %s\n", reached[i], ways[i]);
+        expect(reached[i] >= REACHED_AT_LEAST, ways[i]);
+    }
     printf("%d passed, %d failed\n", passed, failed);
     return failed != 0;
 }

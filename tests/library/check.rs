@@ -15,6 +15,11 @@ use std::marker::PhantomData;
 use std::mem::size_of;
 use std::ptr::addr_of_mut;
 
+/// The top of the recovery count.
+const RECOVERY_TOP: u8 = 40;
+/// The bytes of an image.
+const IMAGE: u64 = 46;
+
 // ---- made numbers
 
 /// xorshift64*
@@ -162,6 +167,12 @@ fn wild_record(dice: &mut Dice) -> Board {
         ramp: count(dice),
         watts: if dice.one_in(2) { dice.within(0, 10001) as u16 } else { dice.next() as u16 },
         vars: dice.next() as i16,
+        recovery: match dice.below(4) {
+            0 => dice.within(38, 42) as u8,
+            1 => dice.within(0, 39) as u8,
+            2 => u8::MAX - dice.below(3) as u8,
+            _ => dice.next() as u8,
+        },
     }
 }
 
@@ -170,6 +181,7 @@ fn wild_report(dice: &mut Dice) -> Report {
         status: dice.next() as u8,
         bits: dice.next() as u16,
         share: dice.next() as u16,
+        recovery: dice.next() as u8,
         watts: dice.next() as u16,
         vars: dice.next() as i16,
     }
@@ -192,6 +204,45 @@ fn sample(dice: &mut Dice, wild: bool) -> Vec<u32> {
     s.into_iter().map(|n| n as u32).collect()
 }
 
+/// Codes at the edges of mandatory operation, momentary cessation and cease.
+const DIPS: [u32; 8] = [0, 249, 250, 774, 1211, 1440, 1441, 4095];
+
+/// A sample in which one phase is one of these.
+fn dip(dice: &mut Dice, steady: &[u32]) -> Vec<u32> {
+    let mut s = steady.to_vec();
+    s[dice.below(3) as usize] = DIPS[dice.below(8) as usize];
+    s
+}
+
+/// Samples one after another: steady ones, often such that let a board return; now and then any sample, or a dip of 1 to 20.
+struct Grid {
+    steady: Vec<u32>,
+    often: u64,
+    dip: Vec<u32>,
+    left: u64,
+}
+
+impl Grid {
+    fn new(dice: &mut Dice, seldom: i64) -> Grid {
+        let steady = if dice.one_in(4) { sample(dice, false) } else { vec![1000, 1010, 990, 60000, 1, 10000, 9000] };
+        Grid { steady, often: dice.within(2, seldom) as u64, dip: Vec::new(), left: 0 }
+    }
+
+    fn next(&mut self, dice: &mut Dice) -> Vec<u32> {
+        if self.left == 0 && !dice.one_in(self.often) {
+            return self.steady.clone();
+        }
+        if self.left == 0 && dice.one_in(2) {
+            return sample(dice, true);
+        }
+        if self.left == 0 {
+            (self.dip, self.left) = (dip(dice, &self.steady), dice.within(1, 20) as u64);
+        }
+        self.left -= 1;
+        self.dip.clone()
+    }
+}
+
 // ---- the same in the comparison program's types
 
 fn other_settings(s: &Settings) -> other::Settings {
@@ -210,12 +261,13 @@ fn other_settings(s: &Settings) -> other::Settings {
 }
 
 fn other_record(b: &Board) -> other::Board {
-    other::Board { status: b.status, counters: b.counters, ramp: b.ramp, watts: b.watts, vars: b.vars }
+    let Board { status, counters, ramp, watts, vars, recovery } = *b;
+    other::Board { status, counters, ramp, watts, vars, recovery }
 }
 
 fn report_of(r: &other::Report) -> Report {
     let bits = r.bits.iter().fold(0, |n, &bit| 2 * n + u16::from(bit));
-    Report { status: r.status, bits, share: r.share, watts: r.watts, vars: r.vars }
+    Report { status: r.status, bits, share: r.share, recovery: r.recovery, watts: r.watts, vars: r.vars }
 }
 
 // ---- memory that is lent byte for byte
@@ -251,6 +303,7 @@ fn lent_board(pattern: u8, b: &Board) -> Lent<Board> {
         addr_of_mut!((*p).ramp).write(b.ramp);
         addr_of_mut!((*p).watts).write(b.watts);
         addr_of_mut!((*p).vars).write(b.vars);
+        addr_of_mut!((*p).recovery).write(b.recovery);
     })
 }
 
@@ -259,6 +312,7 @@ fn lent_report(pattern: u8, r: &Report) -> Lent<Report> {
         addr_of_mut!((*p).status).write(r.status);
         addr_of_mut!((*p).bits).write(r.bits);
         addr_of_mut!((*p).share).write(r.share);
+        addr_of_mut!((*p).recovery).write(r.recovery);
         addr_of_mut!((*p).watts).write(r.watts);
         addr_of_mut!((*p).vars).write(r.vars);
     })
@@ -269,6 +323,66 @@ fn lent_settings(pattern: u8, s: &Settings) -> Lent<Settings> {
     Lent::new(pattern, |p: *mut Settings| unsafe { p.write(*s) })
 }
 
+// ---- what is reached of the recovery
+
+/// Statuses without a name are tripped.
+fn in_service(status: u8) -> bool {
+    (other::ENTERING..=other::CEASE).contains(&status)
+}
+
+/// In service, and not in a cessation.
+fn giving(status: u8) -> bool {
+    (other::ENTERING..=other::MANDATORY).contains(&status)
+}
+
+fn up(lent: &Board, now: &Report, status: u8) -> bool {
+    in_service(lent.status) && lent.recovery < RECOVERY_TOP && now.status == status && now.recovery == lent.recovery + 1
+}
+
+fn back(lent: &Board, now: &Report, status: u8) -> bool {
+    in_service(lent.status) && lent.recovery > 0 && now.status == status && now.recovery == 0
+}
+
+/// In service with a count above its top, and after the step one of these statuses and this count.
+fn above(lent: &Board, now: &Report, status: fn(u8) -> bool, recovery: u8) -> bool {
+    in_service(lent.status) && lent.recovery > RECOVERY_TOP && status(now.status) && now.recovery == recovery
+}
+
+/// Tripped with another count than 40, and 40 after the step.
+fn unread(lent: &Board, now: &Report) -> bool {
+    !in_service(lent.status) && lent.recovery != RECOVERY_TOP && now.recovery == RECOVERY_TOP
+}
+
+fn limits(now: &Report) -> bool {
+    now.recovery < RECOVERY_TOP && now.watts > 0 && now.watts == 250 * u16::from(now.recovery)
+}
+
+/// The ways in which the recovery moves, and that it limits the watts: each told from the record lent to a step and its report.
+const RECOVERIES: [(&str, fn(&Board, &Report) -> bool); 14] = [
+    ("to 0 by momentary", |lent, now| back(lent, now, other::MOMENTARY)),
+    ("to 0 by cease", |lent, now| back(lent, now, other::CEASE)),
+    ("up in entering", |lent, now| up(lent, now, other::ENTERING)),
+    ("up in continuous", |lent, now| up(lent, now, other::CONTINUOUS)),
+    ("up in mandatory", |lent, now| up(lent, now, other::MANDATORY)),
+    ("held at 40", |lent, now| {
+        in_service(lent.status) && lent.recovery == RECOVERY_TOP && giving(now.status) && now.recovery == RECOVERY_TOP
+    }),
+    ("to 40 by a trip", |lent, now| {
+        in_service(lent.status) && lent.recovery < RECOVERY_TOP && !in_service(now.status) && now.recovery == RECOVERY_TOP
+    }),
+    ("40 at a return", |lent, now| !in_service(lent.status) && in_service(now.status) && now.recovery == RECOVERY_TOP),
+    ("limits the watts", |_, now| limits(now)),
+    // from here on of lent records alone
+    ("above 40 and held at 40", |lent, now| above(lent, now, giving, RECOVERY_TOP)),
+    ("above 40 and to 0", |lent, now| above(lent, now, |status| in_service(status) && !giving(status), 0)),
+    ("above 40 and to 40 by a trip", |lent, now| above(lent, now, |status| !in_service(status), RECOVERY_TOP)),
+    ("of a tripped record that stays so", |lent, now| unread(lent, now) && !in_service(now.status)),
+    ("of a tripped record that returns", |lent, now| unread(lent, now) && in_service(now.status)),
+];
+/// So many of them are reached from a fresh board.
+const FROM_FRESH: usize = 9;
+const REACHED_AT_LEAST: u64 = 100;
+
 // ---- the comparisons: each makes one call to both and says whether they agree
 
 #[derive(Default)]
@@ -278,6 +392,7 @@ struct Tally {
     differ_in_case: u64,
     passed: u64,
     failed: u64,
+    recoveries: [u64; RECOVERIES.len()],
 }
 
 impl Tally {
@@ -301,6 +416,31 @@ impl Tally {
             self.failed += 1;
         }
         self.differ_in_case = 0;
+    }
+
+    fn accepted(&mut self, lent: &Board, now: &Report) {
+        for (count, (_, shown)) in self.recoveries.iter_mut().zip(RECOVERIES) {
+            *count += u64::from(shown(lent, now));
+        }
+    }
+
+    /// A thing to be reached often enough is a case.
+    fn reached(&mut self, name: &str, count: u64) {
+        println!("{count:>9}  recovery {name}");
+        if count >= REACHED_AT_LEAST {
+            self.passed += 1;
+        } else {
+            self.failed += 1;
+            println!("too few: recovery {name}");
+        }
+    }
+
+    /// The first of the ways, counted since this was last asked.
+    fn recoveries(&mut self, ways: usize) {
+        let counts = std::mem::take(&mut self.recoveries);
+        for ((name, _), count) in RECOVERIES.into_iter().zip(counts).take(ways) {
+            self.reached(name, count);
+        }
     }
 }
 
@@ -331,6 +471,9 @@ fn compare_step(tally: &mut Tally, board: &mut Board, settings: &Settings, sampl
         && s.bytes() == before.1
         && (found == 0 || untouched);
     tally.call(same, || format!("step of {:?} with {:?}: {} {:?} {:?}, not {} {:?} {:?}", lent, sample, found, board, report, number, record, reported));
+    if found == 0 {
+        tally.accepted(&lent.0, report);
+    }
     found
 }
 
@@ -418,22 +561,21 @@ fn compare_replay(tally: &mut Tally, settings: &Settings, samples: &[u32], repor
 
 // ---- the groups
 
-/// Boards from fresh: mostly steady samples, often such that let it return, some refused; `seen` counts the statuses reported.
+/// Boards from fresh: mostly steady samples, dips, some refused; `seen` counts the statuses reported.
 fn boards(tally: &mut Tally, dice: &mut Dice, seen: &mut [u64; 10]) {
     for _ in 0..1000 {
         let mut board = compare_fresh(tally);
         let good = settings_of(&good_pairs(dice));
         let mut report = wild_report(dice);
-        let steady = if dice.one_in(4) { sample(dice, false) } else { vec![1000, 1010, 990, 60000, 1, 10000, 9000] };
-        let often = dice.within(2, 40) as u64;
+        let mut grid = Grid::new(dice, 40);
         for _ in 0..150 {
-            let s = if dice.one_in(often) { sample(dice, true) } else { steady.clone() };
+            let s = grid.next(dice);
             let settings = if dice.one_in(20) { settings_of(&wild_pairs(dice)) } else { good };
             if compare_step(tally, &mut board, &settings, &s, &mut report) == 0 {
                 seen[report.status as usize] += 1;
             }
         }
-        compare_save(tally, &board, &mut [0xAA; 50]);
+        compare_save(tally, &board, &mut [0xAA; 51]);
         tally.case();
     }
 }
@@ -457,9 +599,23 @@ fn steps(tally: &mut Tally, dice: &mut Dice, seen: &mut [u64; 10]) {
     tally.case();
 }
 
-/// Records of any kind into buffers of 0 to 50 bytes.
+/// Records of any kind but for counters, which are low: few trip, and any recovery is counted on, held, set back and read anew.
+fn lent_recoveries(tally: &mut Tally, dice: &mut Dice) {
+    for i in 1..=20_000 {
+        let mut record = wild_record(dice);
+        record.counters = std::array::from_fn(|_| dice.below(15) as u32);
+        let steady = [1000, 1010, 990, 60000, 1, 10000, 9000];
+        let s = if dice.one_in(2) { dip(dice, &steady) } else { steady.to_vec() };
+        compare_step(tally, &mut record, &settings_of(&good_pairs(dice)), &s, &mut wild_report(dice));
+        if i % 100 == 0 {
+            tally.case();
+        }
+    }
+}
+
+/// Records of any kind into buffers of 0 to 51 bytes.
 fn saves(tally: &mut Tally, dice: &mut Dice, seen: &mut [u64; 10]) {
-    for length in 0..=50 {
+    for length in 0..=51 {
         for _ in 0..200 {
             let mut buffer: Vec<u8> = (0..length).map(|_| dice.next() as u8).collect();
             seen[compare_save(tally, &wild_record(dice), &mut buffer) as usize] += 1;
@@ -515,32 +671,36 @@ fn sheets(tally: &mut Tally, dice: &mut Dice, seen: &mut [u64; 10]) {
     tally.case();
 }
 
-/// Recordings of 0 to 1,000 numbers, with samples that are refused and a last one cut short; settings good and not, buffers of 0 to 60 bytes.
-fn replays(tally: &mut Tally, dice: &mut Dice, seen: &mut [u64; 10]) -> [u64; 6] {
-    let mut statuses = [0; 6];
+/// Recordings of 0 to 1,000 numbers, with dips, samples that are refused and a last one cut short; settings good and not, buffers of 0 to 60
+/// bytes.
+fn replays(tally: &mut Tally, dice: &mut Dice, seen: &mut [u64; 10]) -> ([u64; 6], [u64; 3]) {
+    let (mut statuses, mut recoveries) = ([0; 6], [0; 3]);
     for i in 0..4_000 {
         let pairs = if dice.one_in(8) { wild_pairs(dice) } else { good_pairs(dice) };
-        let steady = if dice.one_in(4) { sample(dice, false) } else { vec![1000, 1010, 990, 60000, 1, 10000, 9000] };
-        let often = dice.within(2, 60) as u64;
+        let mut grid = Grid::new(dice, 60);
         let mut samples = Vec::new();
         while samples.len() <= 1000 {
-            let mut s = if dice.one_in(often) { sample(dice, true) } else { steady.clone() };
+            let mut s = grid.next(dice);
             s.resize(7, 0);
             samples.extend(s);
         }
         samples.truncate(if i <= 300 { i } else { dice.below(1001) as usize });
-        let length = if dice.one_in(8) { dice.below(45) } else { 45 + dice.below(16) };
+        let length = if dice.one_in(8) { dice.below(IMAGE) } else { IMAGE + dice.below(15) };
         let buffer: Vec<u8> = (0..length).map(|_| dice.next() as u8).collect();
         let (found, last) = compare_replay(tally, &settings_of(&pairs), &samples, &wild_report(dice), &buffer);
         seen[found.number as usize] += 1;
         if found.number == 0 {
             statuses[last.status as usize] += 1;
+            let ends = [last.recovery == 0, (1..RECOVERY_TOP).contains(&last.recovery), limits(&last)];
+            for (count, end) in recoveries.iter_mut().zip(ends) {
+                *count += u64::from(end);
+            }
         }
         if i % 20 == 19 {
             tally.case();
         }
     }
-    statuses
+    (statuses, recoveries)
 }
 
 fn main() {
@@ -548,9 +708,13 @@ fn main() {
     let mut seen = [0; 10];
     boards(&mut tally, &mut Dice(1_547_2018), &mut seen);
     println!("boards: 1000 from fresh, 150 steps and a saving each; statuses reported {:?}", &seen[..6]);
+    tally.recoveries(FROM_FRESH);
     let mut seen = [0; 10];
     steps(&mut tally, &mut Dice(20_260_101), &mut seen);
     println!("steps: numbers answered {:?}", &seen[..9]);
+    lent_recoveries(&mut tally, &mut Dice(40));
+    println!("steps: these, and 20000 of records with low counters:");
+    tally.recoveries(RECOVERIES.len());
     let mut seen = [0; 10];
     saves(&mut tally, &mut Dice(45), &mut seen);
     println!("saves: {} written, {} refused with 9", seen[0], seen[9]);
@@ -558,8 +722,11 @@ fn main() {
     sheets(&mut tally, &mut Dice(13), &mut seen);
     println!("sheets: numbers answered {:?}", &seen[..4]);
     let mut seen = [0; 10];
-    let statuses = replays(&mut tally, &mut Dice(7), &mut seen);
+    let (statuses, recoveries) = replays(&mut tally, &mut Dice(7), &mut seen);
     println!("replays: numbers answered {:?}, statuses at the end {:?}", seen, statuses);
+    for (name, count) in ["0 at the end", "1 to 39 at the end", "limits the watts at the end"].into_iter().zip(recoveries) {
+        tally.reached(name, count);
+    }
     println!("calls: {}, {} of them differ", tally.calls, tally.differ);
     println!("{} passed, {} failed", tally.passed, tally.failed);
     if tally.failed > 0 {

@@ -38,6 +38,7 @@ pub struct Settings {
 #[derive(Clone, Copy, Debug, PartialEq)]
 pub struct Board {
     pub status: u8,
+    pub recovery: u8,
     pub counters: [u32; 9],
     pub ramp: u32,
     pub watts: u16,
@@ -48,6 +49,7 @@ pub struct Board {
 #[derive(Clone, Copy, Debug, PartialEq)]
 pub struct Report {
     pub status: u8,
+    pub recovery: u8,
     pub bits: u16,
     pub share: u16,
     pub watts: u16,

@@ -174,15 +174,15 @@ fn show_bytes(bytes: &[u8]) {
 
 fn images() {
     let b = exporting();
-    let mut short = [170u8; 44];
+    let mut short = [170u8; 45];
     show(
-        b"save into 44 bytes: ",
+        b"save into 45 bytes: ",
         saved_number(image::save(b, &mut short)),
     );
     show(b"its first byte: ", wide8(short[0]));
-    let mut buffer = [170u8; 46];
+    let mut buffer = [170u8; 47];
     show(
-        b"save into 46 bytes: ",
+        b"save into 47 bytes: ",
         saved_number(image::save(b, &mut buffer)),
     );
     show_bytes(&buffer);

@@ -7,6 +7,7 @@ pub mod Powers
 pub mod Alike
 pub mod FirstCause
 pub mod SheetCauses
+pub mod Recovery
 pub mod TripAndReturn
 pub mod TwoHistories
 pub mod Printed

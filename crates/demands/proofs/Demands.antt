@@ -16,6 +16,7 @@ use Rattle.laws.proofs.FirstCause.{refuses-rightly}
 use Rattle.laws.proofs.SheetCauses.{sheets-refused-rightly}
 use Rattle.laws.proofs.Demand2.{demand2, reports-trip, counter-rule}
 use Rattle.laws.proofs.Demand3.{demand3}
+use Rattle.laws.proofs.Recovery.{restores-power}
 use Rattle.laws.proofs.Bits.{bits-unpacked, reports-items, two-histories-reported}
 use Rattle.laws.proofs.LentRecords.{reads-records}
 use Rattle.laws.proofs.Printed.{words-tell}
@@ -39,7 +40,7 @@ use Rattle.demands.specs.Demands.{AcceptedSamplesWritable, SampleLinesRe
 use Rattle.demands.specs.Demands.{ShamsCaught, ShamImagesCaught, ShamReadingsCaught, AnyTripAndReturn, AnyTwoHistories, OurEquipmentSound}
 use Rattle.demands.specs.Demands.{PowerLaws, OurSessions, SessionsPrinted}
 use Rattle.demands.specs.Demands.{AlikeEquipmentStepsAlike, OurPrinted, OnePrinting, SamplesOnLines, StatusWordsTell, BitsUnpacked}
-use Rattle.demands.specs.Demands.{ReportsAreItems, OurTwoHistoriesReported}
+use Rattle.demands.specs.Demands.{ReportsAreItems, OurTwoHistoriesReported, OurRecovery, AnyRecovery, ShamRecoveryCaught}
 use Rattle.demands.specs.Demands.{OurLentRecords, LentValues, RightReportsTrip, ShamRefusalsCaught, ShamReportsCaught, ShamPrintingsCaught}
 use Rattle.claims.specs.TripAndReturn.{Demand2}
 use Rattle.claims.specs.TwoHistories.{Demand3}
@@ -56,7 +57,7 @@ use Rattle.demands.proofs.Printed.{prints-by-history, one-printing, sam
 use Rattle.demands.proofs.Writable.{accepted-writable}
 use Rattle.demands.proofs.Sound.{our-equipment-sound}
 use Rattle.demands.proofs.Shams.{quick-accepted, waiting-accepted, early, invented, tripped, repeated, kept, refusing, leaving, as-lent}
-use Rattle.demands.proofs.Shams.{no-ramp, no-ninth, no-bits}
+use Rattle.demands.proofs.Shams.{no-ramp, no-ninth, no-recovery, no-bits, full-at-once, unheld, withheld}
 use Rattle.demands.proofs.ShamStatus.{only-reports, only-trips, only-returns}
 use Rattle.demands.proofs.ShamReadings.{turned-away, let-in}
 use Rattle.demands.proofs.ShamPrintings.{no-more, not-nothing}
@@ -168,6 +169,9 @@ powerLaws =
       beside-vars = λ st ok v. nameplate-largest (curve (st .var) v) (curve-small 10000 (st .var) v (powers-small (st .var) (var-rises st ok)));
     }
 
+pub ourRecovery : OurRecovery
+ourRecovery st ok = restores-power ourEquipment st our-equipment-sound ok
+
 pub edgeValues : EdgeValues
 edgeValues = edges-hold
 
@@ -200,7 +204,10 @@ shamRefusalsCaught =
     }
 
 pub shamImagesCaught : ShamImagesCaught
-shamImagesCaught = record { accepted = (quick-accepted, waiting-accepted); ramp = no-ramp; ninth = no-ninth; bits = no-bits }
+shamImagesCaught = record { accepted = (quick-accepted, waiting-accepted); ramp = no-ramp; ninth = no-ninth; recovery = no-recovery; bits = no-bits }
+
+pub shamRecoveryCaught : ShamRecoveryCaught
+shamRecoveryCaught = record { shown = full-at-once; unheld = unheld; withheld = withheld }
 
 pub shamReadingsCaught : ShamReadingsCaught
 shamReadingsCaught =
@@ -211,6 +218,9 @@ shamPrintingsCaught = record { goes-on = no-more; nothing = not-nothing }
 
 pub anyTripAndReturn : AnyTripAndReturn
 anyTripAndReturn e sound = demand2 e sound
+
+pub anyRecovery : AnyRecovery
+anyRecovery e sound st ok = restores-power e st sound ok
 
 pub anyTwoHistories : AnyTwoHistories
 anyTwoHistories e sound = demand3 e sound

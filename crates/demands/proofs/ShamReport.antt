@@ -13,7 +13,7 @@ use Rattle.rules.specs.Samples.{Slice, Equipment, permitted, frequency, lowest,
 use Rattle.rules.specs.Counters.{Kind, undervoltage, overvoltage, underfrequency, overfrequency, kinds, broken, inRange, limitRules, readyRule}
 use Rattle.rules.specs.Regions.{ourEquipment}
 use Rattle.rules.specs.Service.{serves, varsOf, wattsOf}
-use Rattle.rules.specs.History.{History, followedBy, streak, complete, serving, climbed, historyStatus, historyShare, historyWatts, historyVars, historyReport}
+use Rattle.rules.specs.History.{History, followedBy, streak, complete, serving, climbed, sinceCessation, historyStatus, historyShare, historyRecovery, historyWatts, historyVars, historyReport}
 use Rattle.rules.specs.declared.Settings.{Settings}
 use Rattle.claims.specs.TwoHistories.{AgreeBy}
 use Rattle.laws.proofs.Limits.{LevelIn, LimitsIn, limits-in}
@@ -134,10 +134,19 @@ module _ (e : Equipment) (st : Settings) (ok : settingsAccepted st ≡ true) whe
     unfolding historyShare
     share-under h = rw (climbed-under h)
 
+    since-under : (h : History) → sinceCessation e st (under h x) ≡ sinceCessation e st h
+    unfolding sinceCessation
+    since-under [] = rw alone-tripped
+    since-under (y ∷ h) = rw (serving-under h, serving-under (y ∷ h), since-under h)
+
+    recovery-under : (h : History) → historyRecovery e st (under h x) ≡ historyRecovery e st h
+    unfolding historyRecovery
+    recovery-under h = rw (since-under h)
+
     watts-under : (h : History) → historyWatts e st (under h x) ≡ historyWatts e st h
     unfolding historyWatts wattsOf within
     watts-under [] = rw alone-status
-    watts-under (y ∷ h) = rw (status-under (y ∷ h), share-under (y ∷ h))
+    watts-under (y ∷ h) = rw (status-under (y ∷ h), share-under (y ∷ h), recovery-under (y ∷ h))
 
     vars-under : (h : History) → historyVars e st (under h x) ≡ historyVars e st h
     unfolding historyVars varsOf within
@@ -159,4 +168,5 @@ agree-without-bits st ok x out run l a =
     same : (h : History) → reportWithoutBits st h ≡ reportWithoutBits st (under h x)
     same h =
         same-items (sym (status-under ourEquipment st ok x out h)) refl (sym (share-under ourEquipment st ok x out h))
+        (sym (recovery-under ourEquipment st ok x out h))
         (sym (watts-under ourEquipment st ok x out h)) (sym (vars-under ourEquipment st ok x out h))

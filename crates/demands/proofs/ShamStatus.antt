@@ -17,7 +17,7 @@ use Rattle.rules.specs.Refusals.{answerNumber}
 use Rattle.rules.specs.Service.{inService, varsOf, wattsOf}
 use Rattle.rules.specs.Reports.{reportOf}
 use Rattle.rules.specs.Records.{fresh, each, readAs, settled, ruled, next, shown, stepOf}
-use Rattle.rules.specs.History.{streak, serving, climbed, historyStatus, historyShare, historyWatts, historyVars, historyReport}
+use Rattle.rules.specs.History.{streak, serving, climbed, sinceCessation, historyStatus, historyShare, historyRecovery, historyWatts, historyVars, historyReport}
 use Rattle.rules.specs.declared.Settings.{Settings}
 use Rattle.rules.specs.declared.Board.{Board}
 use Rattle.rules.specs.declared.Report.{Report}
@@ -108,7 +108,7 @@ calm = calls 60000 1
 
 -- after a sample at nominal ready is the one bit
 bits-told : ¬ Shows ourEquipment (showing turnedOver) quick
-unfolding all any within largest voltage rows inRow rising checkFrom linesOf settingsCheck sampleCheck broken inRange voltageRegion frequencyRegion regionOf curveFrom curve nameplate varsOf wattsOf reportOf fresh each readAs settled ruled next shown stepOf streak serving climbed historyStatus historyShare historyWatts historyVars historyReport
+unfolding all any within largest voltage rows inRow rising checkFrom linesOf settingsCheck sampleCheck broken inRange voltageRegion frequencyRegion regionOf curveFrom curve nameplate varsOf wattsOf reportOf fresh each readAs settled ruled next shown stepOf streak serving climbed sinceCessation historyStatus historyShare historyRecovery historyWatts historyVars historyReport
 bits-told d =
     let e : _≡_ {A = ℕ} 510 1 = ap (λ (r : Report). r .bits) (d (calm ∷ []) (inl refl, tt)) in
     omega arith

@@ -4,14 +4,14 @@ use mathlib.Core.Path.{_≡_, refl, ap}
 use mathlib.Core.Bool.{true, false}
 use mathlib.Core.Logic.{inl}
 use mathlib.Core.List.{List, [], _∷_}
-use Prim.Native.Nat.{ℕ}
+use Prim.Native.Nat.{ℕ, _≤_}
 use native.Mathlib.Omega.{arith}
 use lib.IntN.{pos}
 use lib.ListN.{getD, replicate}
 use Rattle.rules.specs.Tests.{all, any, within}
 use Rattle.rules.specs.Sensing.{largest, voltage}
 use Rattle.rules.specs.Settings.{rows, inRow, rising, checkFrom, linesOf, settingsCheck, settingsAccepted}
-use Rattle.rules.specs.Samples.{sampleCheck}
+use Rattle.rules.specs.Samples.{Slice, sampleCheck}
 use Rattle.rules.specs.Counters.{broken, inRange}
 use Rattle.rules.specs.Regions.{voltageRegion, frequencyRegion, regionOf, ourEquipment}
 use Rattle.rules.specs.Curves.{curveFrom, curve, nameplate}
@@ -19,7 +19,7 @@ use Rattle.rules.specs.Service.{varsOf, wattsOf}
 use Rattle.rules.specs.Reports.{Items, reportOf}
 use Rattle.rules.specs.Images.{numberBytes, fieldBytes, imageFields, image, savedInto}
 use Rattle.rules.specs.Records.{fresh, each, readAs, settled, ruled, next, shown, stepOf}
-use Rattle.rules.specs.History.{streak, serving, climbed, historyStatus, historyShare, historyWatts, historyVars, historyReport}
+use Rattle.rules.specs.History.{History, streak, serving, climbed, sinceCessation, historyStatus, historyShare, historyRecovery, historyWatts, historyVars, historyReport}
 use Rattle.rules.specs.declared.Settings.{Settings}
 use Rattle.rules.specs.declared.Board.{Board}
 use Rattle.rules.specs.declared.Report.{Report}
@@ -28,10 +28,12 @@ use Rattle.claims.specs.Calls.{Call, ruledBy}
 use Rattle.rules.specs.Refusals.{answerNumber}
 use Rattle.claims.specs.TripAndReturn.{recordOf, TripAndReturn}
 use Rattle.claims.specs.LentRecords.{ReadsRecords}
+use Rattle.claims.specs.Recovery.{RestoresPower}
 use Rattle.claims.specs.TwoHistories.{TwoHistoriesBy}
 use Rattle.demands.specs.Shams.{exampleSheet, tripsEarly, inventsCounters, alwaysTripped, repeatsFirst, keepsRecord, turnsAway, takesAsLent}
 use Rattle.demands.specs.ShamRefusals.{refusesLastCode}
-use Rattle.demands.specs.Shams.{turnsAwayLastCode, savedWithoutRamp, savedWithoutNinth, reportWithoutBits}
+use Rattle.demands.specs.Shams.{turnsAwayLastCode, savedWithoutRamp, savedWithoutNinth, savedWithoutRecovery, reportWithoutBits}
+use Rattle.demands.specs.Shams.{reportFullAtOnce, reportUnheld, reportWithheld}
 use Rattle.demands.proofs.ShamReport.{agree-without-bits}
 
 abbrev quick : Settings
@@ -53,42 +55,42 @@ calm = calls 60000 1
 
 -- in service and a limit broken once: ours rides through in mandatory operation
 pub early : ¬ TripAndReturn ourEquipment tripsEarly quick
-unfolding tripsEarly all any within largest voltage rows inRow rising checkFrom linesOf settingsCheck sampleCheck broken inRange voltageRegion frequencyRegion regionOf curveFrom curve nameplate varsOf wattsOf reportOf fresh each readAs settled ruled next shown stepOf streak serving climbed historyStatus historyShare historyWatts historyVars historyReport
+unfolding tripsEarly all any within largest voltage rows inRow rising checkFrom linesOf settingsCheck sampleCheck broken inRange voltageRegion frequencyRegion regionOf curveFrom curve nameplate varsOf wattsOf reportOf fresh each readAs settled ruled next shown stepOf streak serving climbed sinceCessation historyStatus historyShare historyRecovery historyWatts historyVars historyReport
 early d =
     let e : _≡_ {A = ℕ} 0 3 = ap (λ (r : Report). r .status) (d .shows (calm ∷ calls 62001 1 ∷ []) (inl refl, (inl refl, tt))) in
     omega arith
 
 -- after a sample at nominal the ninth counter is 1
 pub invented : ¬ TripAndReturn ourEquipment inventsCounters quick
-unfolding inventsCounters recordOf all any within largest voltage rows inRow rising checkFrom linesOf settingsCheck sampleCheck broken inRange voltageRegion frequencyRegion regionOf curveFrom curve nameplate varsOf wattsOf reportOf fresh each readAs settled ruled next shown stepOf streak serving climbed historyStatus historyShare historyWatts historyVars historyReport
+unfolding inventsCounters recordOf all any within largest voltage rows inRow rising checkFrom linesOf settingsCheck sampleCheck broken inRange voltageRegion frequencyRegion regionOf curveFrom curve nameplate varsOf wattsOf reportOf fresh each readAs settled ruled next shown stepOf streak serving climbed sinceCessation historyStatus historyShare historyRecovery historyWatts historyVars historyReport
 invented d =
     let e : _≡_ {A = ℕ} 2 1 = ap (λ (b : Board). getD (b .counters) 8 0) (d .keeps (calm ∷ []) (inl refl, tt)) in
     omega arith
 
 -- a wait of 0 is one step: ours enters service
 pub tripped : ¬ TripAndReturn ourEquipment alwaysTripped quick
-unfolding alwaysTripped all any within largest voltage rows inRow rising checkFrom linesOf settingsCheck sampleCheck broken inRange voltageRegion frequencyRegion regionOf curveFrom curve nameplate varsOf wattsOf reportOf fresh each readAs settled ruled next shown stepOf streak serving climbed historyStatus historyShare historyWatts historyVars historyReport
+unfolding alwaysTripped all any within largest voltage rows inRow rising checkFrom linesOf settingsCheck sampleCheck broken inRange voltageRegion frequencyRegion regionOf curveFrom curve nameplate varsOf wattsOf reportOf fresh each readAs settled ruled next shown stepOf streak serving climbed sinceCessation historyStatus historyShare historyRecovery historyWatts historyVars historyReport
 tripped d =
     let e : _≡_ {A = ℕ} 0 1 = ap (λ (r : Report). r .status) (d .shows (calm ∷ []) (inl refl, tt)) in
     omega arith
 
 -- permission off: ours trips
 pub repeated : ¬ TripAndReturn ourEquipment repeatsFirst quick
-unfolding repeatsFirst all any within largest voltage rows inRow rising checkFrom linesOf settingsCheck sampleCheck broken inRange voltageRegion frequencyRegion regionOf curveFrom curve nameplate varsOf wattsOf reportOf fresh each readAs settled ruled next shown stepOf streak serving climbed historyStatus historyShare historyWatts historyVars historyReport
+unfolding repeatsFirst all any within largest voltage rows inRow rising checkFrom linesOf settingsCheck sampleCheck broken inRange voltageRegion frequencyRegion regionOf curveFrom curve nameplate varsOf wattsOf reportOf fresh each readAs settled ruled next shown stepOf streak serving climbed sinceCessation historyStatus historyShare historyRecovery historyWatts historyVars historyReport
 repeated d =
     let e : _≡_ {A = ℕ} 1 0 = ap (λ (r : Report). r .status) (d .shows (calm ∷ calls 60000 0 ∷ []) (inl refl, (inl refl, tt))) in
     omega arith
 
 -- one step of the ramp: ours shows a share of 100
 pub kept : ¬ TripAndReturn ourEquipment keepsRecord quick
-unfolding keepsRecord all any within largest voltage rows inRow rising checkFrom linesOf settingsCheck sampleCheck broken inRange voltageRegion frequencyRegion regionOf curveFrom curve nameplate varsOf wattsOf reportOf fresh each readAs settled ruled next shown stepOf streak serving climbed historyStatus historyShare historyWatts historyVars historyReport
+unfolding keepsRecord all any within largest voltage rows inRow rising checkFrom linesOf settingsCheck sampleCheck broken inRange voltageRegion frequencyRegion regionOf curveFrom curve nameplate varsOf wattsOf reportOf fresh each readAs settled ruled next shown stepOf streak serving climbed sinceCessation historyStatus historyShare historyRecovery historyWatts historyVars historyReport
 kept d =
     let e : _≡_ {A = ℕ} 0 100 = ap (λ (r : Report). r .share) (d .shows (calm ∷ calm ∷ []) (inl refl, (inl refl, tt))) in
     omega arith
 
 -- a second sample in service whose status stays: ours reports it
 pub refusing : ¬ TripAndReturn ourEquipment turnsAway quick
-unfolding turnsAway all any within largest voltage rows inRow rising checkFrom linesOf settingsCheck sampleCheck broken inRange voltageRegion frequencyRegion regionOf curveFrom curve nameplate varsOf wattsOf reportOf fresh each readAs settled ruled next shown stepOf streak serving climbed historyStatus historyShare historyWatts historyVars historyReport
+unfolding turnsAway all any within largest voltage rows inRow rising checkFrom linesOf settingsCheck sampleCheck broken inRange voltageRegion frequencyRegion regionOf curveFrom curve nameplate varsOf wattsOf reportOf fresh each readAs settled ruled next shown stepOf streak serving climbed sinceCessation historyStatus historyShare historyRecovery historyWatts historyVars historyReport
 refusing d =
     let e : _≡_ {A = ℕ} 4 0 = ap answerNumber (d .answers (calm ∷ []) calm (record { under = (inl refl, tt); lends = inl refl; accepted = refl })) in
     omega arith
@@ -107,7 +109,7 @@ leaving d =
 pub as-lent : ¬ ReadsRecords ourEquipment takesAsLent
 unfolding takesAsLent all any within largest voltage rows inRow rising checkFrom linesOf settingsCheck sampleCheck broken inRange voltageRegion frequencyRegion regionOf curveFrom curve nameplate varsOf wattsOf reportOf fresh each readAs settled ruled next shown stepOf
 as-lent d =
-    let b : Board = record { status = 3; counters = replicate 9 0; ramp = 101; watts = 0; vars = pos 0 } in
+    let b : Board = record { status = 3; counters = replicate 9 0; ramp = 101; watts = 0; vars = pos 0; recovery = 40 } in
     let e : _≡_ {A = ℕ} 101 100 = ap (λ (t : Stepped). t .board .ramp) (d .steps b (calls 62001 1) refl) in
     omega arith
 
@@ -115,7 +117,7 @@ as-lent d =
 
 -- a buffer that 9 lets pass
 abbrev buffer : List ℕ
-buffer = replicate 45 0
+buffer = replicate 46 0
 
 -- a sample at nominal with no power available, so that the ramp shows in the share alone
 abbrev idle : ℕ → Call
@@ -123,7 +125,7 @@ idle wait = record { settings = exampleSheet wait; slice = 1000 ∷ 1000 ∷ 100
 
 -- two ramp counts, one image: the shares differ at once
 pub no-ramp : ¬ TwoHistoriesBy savedWithoutRamp (historyReport ourEquipment) (ruledBy ourEquipment) quick
-unfolding savedWithoutRamp savedInto image imageFields fieldBytes numberBytes all any within largest voltage rows inRow rising checkFrom linesOf settingsCheck sampleCheck broken inRange voltageRegion frequencyRegion regionOf curveFrom curve nameplate varsOf wattsOf reportOf fresh each readAs settled ruled next shown stepOf streak serving climbed historyStatus historyShare historyWatts historyVars historyReport
+unfolding savedWithoutRamp savedInto image imageFields fieldBytes numberBytes all any within largest voltage rows inRow rising checkFrom linesOf settingsCheck sampleCheck broken inRange voltageRegion frequencyRegion regionOf curveFrom curve nameplate varsOf wattsOf reportOf fresh each readAs settled ruled next shown stepOf streak serving climbed sinceCessation historyStatus historyShare historyRecovery historyWatts historyVars historyReport
 no-ramp d =
     let f = d (idle 0 ∷ idle 0 ∷ []) (idle 0 ∷ idle 0 ∷ idle 0 ∷ []) (inl refl, (inl refl, tt)) (inl refl, (inl refl, (inl refl, tt))) buffer buffer
     (omega arith) (omega arith) .0 refl in
@@ -132,10 +134,51 @@ no-ramp d =
 
 -- two counts of a wait of 2, one image: after one sample more one board is in service
 pub no-ninth : ¬ TwoHistoriesBy savedWithoutNinth (historyReport ourEquipment) (ruledBy ourEquipment) (exampleSheet 2)
-unfolding savedWithoutNinth savedInto image imageFields fieldBytes numberBytes all any within largest voltage rows inRow rising checkFrom linesOf settingsCheck sampleCheck broken inRange voltageRegion frequencyRegion regionOf curveFrom curve nameplate varsOf wattsOf reportOf fresh each readAs settled ruled next shown stepOf streak serving climbed historyStatus historyShare historyWatts historyVars historyReport
+unfolding savedWithoutNinth savedInto image imageFields fieldBytes numberBytes all any within largest voltage rows inRow rising checkFrom linesOf settingsCheck sampleCheck broken inRange voltageRegion frequencyRegion regionOf curveFrom curve nameplate varsOf wattsOf reportOf fresh each readAs settled ruled next shown stepOf streak serving climbed sinceCessation historyStatus historyShare historyRecovery historyWatts historyVars historyReport
 no-ninth d =
     let f = d [] (idle 2 ∷ []) tt (inl refl, tt) buffer buffer (omega arith) (omega arith) .0 refl in
     let e : _≡_ {A = ℕ} 0 1 = ap (λ (r : Items). r .status) (f ((idle 2 .slice) ∷ []) (omega arith) (refl, tt)) in
+    omega arith
+
+-- a step above 12000 with no power available, where it ceases to energize
+abbrev swell : Call
+swell = record { settings = quick; slice = 1000 ∷ 1000 ∷ 1441 ∷ 60000 ∷ 1 ∷ 0 ∷ 0 ∷ [] }
+
+-- one sample after a cessation, and one with none before it, one image: the counts differ at once
+pub no-recovery : ¬ TwoHistoriesBy savedWithoutRecovery (historyReport ourEquipment) (ruledBy ourEquipment) quick
+unfolding savedWithoutRecovery savedInto image imageFields fieldBytes numberBytes all any within largest voltage rows inRow rising checkFrom linesOf settingsCheck sampleCheck broken inRange voltageRegion frequencyRegion regionOf curveFrom curve nameplate varsOf wattsOf reportOf fresh each readAs settled ruled next shown stepOf streak serving climbed sinceCessation historyStatus historyShare historyRecovery historyWatts historyVars historyReport
+no-recovery d =
+    let f = d (idle 0 ∷ swell ∷ idle 0 ∷ []) (idle 0 ∷ idle 0 ∷ []) (inl refl, (inl refl, (inl refl, tt))) (inl refl, (inl refl, tt)) buffer buffer
+    (omega arith) (omega arith) .0 refl in
+    let e : _≡_ {A = ℕ} 1 40 = ap (λ (r : Items). r .recovery) (f [] (omega arith) tt) in
+    omega arith
+
+-- ---- sham recoveries
+
+-- in cease the count is 0
+pub full-at-once : ¬ RestoresPower ourEquipment quick (reportFullAtOnce quick)
+unfolding reportFullAtOnce all any within largest voltage broken inRange voltageRegion frequencyRegion regionOf streak serving climbed sinceCessation historyStatus historyShare historyRecovery historyWatts historyVars historyReport
+full-at-once d =
+    let e : _≡_ {A = ℕ} 40 0 = d .ceased (swell .slice ∷ idle 0 .slice ∷ []) refl in
+    omega arith
+
+-- four samples at nominal, one above 12000, and one at nominal, the newest first, all with power available: the share is 400, and 250 is let through
+abbrev power : ℕ → Slice
+power code = 1000 ∷ 1000 ∷ code ∷ 60000 ∷ 1 ∷ 10000 ∷ 10000 ∷ []
+
+abbrev back : History
+back = power 1000 ∷ power 1441 ∷ power 1000 ∷ power 1000 ∷ power 1000 ∷ power 1000 ∷ []
+
+pub unheld : ¬ RestoresPower ourEquipment quick (reportUnheld quick)
+unfolding reportUnheld all any within largest voltage broken inRange voltageRegion frequencyRegion regionOf curveFrom curve nameplate varsOf wattsOf streak serving climbed sinceCessation historyStatus historyShare historyRecovery historyWatts historyVars historyReport
+unheld d =
+    let e : 400 ≤ 250 = d .bound back in
+    omega arith
+
+pub withheld : ¬ RestoresPower ourEquipment quick (reportWithheld quick)
+unfolding reportWithheld all any within largest voltage broken inRange voltageRegion frequencyRegion regionOf curveFrom curve nameplate varsOf wattsOf streak serving climbed sinceCessation historyStatus historyShare historyRecovery historyWatts historyVars historyReport
+withheld d =
+    let e : _≡_ {A = ℕ} 0 250 = d .held (power 1000) (power 1441 ∷ power 1000 ∷ power 1000 ∷ power 1000 ∷ power 1000 ∷ []) refl in
     omega arith
 
 -- ---- a sham report
@@ -150,7 +193,7 @@ dark-out = refl
 
 -- uv1's counter stands at 1 in one image and at 0 in the other, and without bits no run tells it
 pub no-bits : ¬ TwoHistoriesBy savedInto reportWithoutBits (ruledBy ourEquipment) quick
-unfolding savedInto image imageFields fieldBytes numberBytes all any within largest voltage rows inRow rising checkFrom linesOf settingsCheck sampleCheck broken inRange voltageRegion frequencyRegion regionOf curveFrom curve nameplate varsOf wattsOf reportOf fresh each readAs settled ruled next shown stepOf streak serving climbed historyStatus historyShare historyWatts historyVars historyReport
+unfolding savedInto image imageFields fieldBytes numberBytes all any within largest voltage rows inRow rising checkFrom linesOf settingsCheck sampleCheck broken inRange voltageRegion frequencyRegion regionOf curveFrom curve nameplate varsOf wattsOf reportOf fresh each readAs settled ruled next shown stepOf streak serving climbed sinceCessation historyStatus historyShare historyRecovery historyWatts historyVars historyReport
 no-bits d =
     let same = d [] (dark ∷ []) tt (inl refl, tt) buffer buffer (omega arith) (omega arith) .1 (agree-without-bits quick quick-accepted (dark .slice) dark-out) in
     let e : _≡_ {A = ℕ} 0 1 = ap (λ (bytes : List ℕ). getD bytes 4 0) same in

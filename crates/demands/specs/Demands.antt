@@ -49,6 +49,7 @@ use Rattle.program.specs.Standing.{StandingLaw}
 use Rattle.claims.specs.Calls.{Program, ruledBy, Operations, operationsBy}
 use Rattle.claims.specs.Sound.{Sound}
 use Rattle.claims.specs.Alike.{Alike}
+use Rattle.claims.specs.Recovery.{RestoresPower}
 use Rattle.claims.specs.Powers.{LargestBeside, RisingPoints, FollowsPoints}
 use Rattle.claims.specs.FirstCause.{RefusesRightly}
 use Rattle.claims.specs.SheetCauses.{SheetsRefusedRightly}
@@ -74,7 +75,8 @@ use Rattle.demands.specs.Contracts.{ContractsSay, CodeMeets}
 use Rattle.demands.specs.Edges.{EdgesHold}
 use Rattle.demands.specs.Lent.{LentRead}
 use Rattle.demands.specs.Shams.{exampleSheet, tripsEarly, inventsCounters, alwaysTripped, repeatsFirst, keepsRecord, turnsAway}
-use Rattle.demands.specs.Shams.{inventsBits, hidesTrips, saysTripped, savedWithoutRamp, savedWithoutNinth, reportWithoutBits, refusesNoWait}
+use Rattle.demands.specs.Shams.{inventsBits, hidesTrips, saysTripped, savedWithoutRamp, savedWithoutNinth, savedWithoutRecovery, reportWithoutBits, refusesNoWait}
+use Rattle.demands.specs.Shams.{reportFullAtOnce, reportUnheld, reportWithheld}
 use Rattle.demands.specs.Shams.{takesAsLent, takesUnended, largeNoNumber, stepsUnended, stepsPastReturn}
 use Rattle.demands.specs.Shams.{turnsAwayLastCode, goesOn, saysNothing}
 use Rattle.demands.specs.ShamRefusals.{refusesLastCode, storesReading, sampleFirst, writesWhatFits, linesFromZero, handsRest}
@@ -285,6 +287,13 @@ pub record PowerLaws : Type 0 where
   pub watts : (st : Settings) → settingsAccepted st ≡ true → (v : ℕ) → pos (natAbs (curve (st .watt) v)) ≡ curve (st .watt) v
   pub beside-vars : (st : Settings) → settingsAccepted st ≡ true → (v : ℕ) → LargestBeside (curve (st .var) v) (nameplate (curve (st .var) v))
 
+-- Power back after a cessation, as the standard asks within 0.4 s: `RestoresPower` in claims/specs/Recovery.antt, of the reports of histories, which demand 2
+-- ties to the board's. After k samples in a row that give power, k up to 40, behind a cessation, the recovery count is k and lets exactly 250 × k through; after
+-- forty in a row, whatever was before them, it is 40. Where power is given the watts are what the other limits leave, or what the count lets through where
+-- that is less; at 40 they are what the others leave.
+abbrev pub OurRecovery : Type 0
+OurRecovery = (st : Settings) → settingsAccepted st ≡ true → RestoresPower ourEquipment st (historyReport ourEquipment st)
+
 -- The values of spec 14.1, one table: specs/Edges.antt.
 abbrev pub EdgeValues : Type 0
 EdgeValues = EdgesHold
@@ -317,13 +326,21 @@ pub record ShamReportsCaught : Type 0 where
   pub returns : (¬ Returns ourEquipment saysTripped (exampleSheet 0)) × Refuses saysTripped (exampleSheet 0) × Keeps ourEquipment saysTripped (exampleSheet 0)
       × Trips ourEquipment saysTripped (exampleSheet 0) × ReturnsContinuous ourEquipment saysTripped (exampleSheet 0)
 
--- Demand 3 is false of an image with 0 in the ramp count's place and of one with 0 in the ninth counter's: equal images, different later
--- reports; and of a report whose bits are always 0: equal reports, different images. Each on an example sheet, which is accepted.
+-- Demand 3 is false of an image with 0 in the ramp count's place, of one with 0 in the ninth counter's and of one with 40 in the recovery count's: equal
+-- images, different reports, now or later; and of a report whose bits are always 0: equal reports, different images. Each on an example sheet, which is accepted.
 pub record ShamImagesCaught : Type 0 where
   pub accepted : (settingsAccepted (exampleSheet 0) ≡ true) × (settingsAccepted (exampleSheet 2) ≡ true)
   pub ramp : ¬ TwoHistoriesBy savedWithoutRamp (historyReport ourEquipment) ours (exampleSheet 0)
   pub ninth : ¬ TwoHistoriesBy savedWithoutNinth (historyReport ourEquipment) ours (exampleSheet 2)
+  pub recovery : ¬ TwoHistoriesBy savedWithoutRecovery (historyReport ourEquipment) ours (exampleSheet 0)
   pub bits : ¬ TwoHistoriesBy savedInto reportWithoutBits ours (exampleSheet 0)
+
+-- Three shams do not restore power as they should: one shows a full recovery count at once; one counts as it should and gives all at once; one counts as it
+-- should and gives nothing until the count is full.
+pub record ShamRecoveryCaught : Type 0 where
+  pub shown : ¬ RestoresPower ourEquipment (exampleSheet 0) (reportFullAtOnce (exampleSheet 0))
+  pub unheld : ¬ RestoresPower ourEquipment (exampleSheet 0) (reportUnheld (exampleSheet 0))
+  pub withheld : ¬ RestoresPower ourEquipment (exampleSheet 0) (reportWithheld (exampleSheet 0))
 
 -- Demand 1 is false of operations that refuse a good sample and leave the record; that refuse as they should and change the record; that look at
 -- the sample before the settings; and that write into a buffer which they refuse. It is false of a reading that turns away a good sheet, and of
@@ -361,6 +378,9 @@ AnyTripAndReturn = (e : Equipment) → Sound e → Demand2 e (ruledBy e)
 
 abbrev pub AnyTwoHistories : Type 0
 AnyTwoHistories = (e : Equipment) → Sound e → Demand3 e (ruledBy e)
+
+abbrev pub AnyRecovery : Type 0
+AnyRecovery = (e : Equipment) → Sound e → (st : Settings) → settingsAccepted st ≡ true → RestoresPower e st (historyReport e st)
 
 abbrev pub OurEquipmentSound : Type 0
 OurEquipmentSound = Sound ourEquipment

@@ -17,9 +17,18 @@ use Rattle.demands.specs.Shams.{limit, exampleSheet}
 abbrev pub nine : ℕ → ℕ → ℕ → ℕ → ℕ → ℕ → ℕ → ℕ → ℕ → List ℕ
 nine uv1 uv2 ov1 ov2 uf1 uf2 of1 of2 ninth = uv1 ∷ uv2 ∷ ov1 ∷ ov2 ∷ uf1 ∷ uf2 ∷ of1 ∷ of2 ∷ ninth ∷ []
 
--- status, counters, ramp count, watts, vars
+-- status, counters, ramp count, watts, vars, with a full recovery count
 abbrev pub board : ℕ → List ℕ → ℕ → ℕ → ℤ → Board
-board status counters ramp watts vars = record { status = status; counters = counters; ramp = ramp; watts = watts; vars = vars }
+board status counters ramp watts vars =
+    record { status = status; counters = counters; ramp = ramp; watts = watts; vars = vars; recovery = 40 }
+
+-- a record with another recovery count
+abbrev pub counting : ℕ → Board → Board
+counting n b = record { status = b .status; counters = b .counters; ramp = b .ramp; watts = b .watts; vars = b .vars; recovery = n }
+
+-- records that differ in status and recovery count alone
+abbrev pub recoveringAt : ℕ → ℕ → Board
+recoveringAt status n = counting n (board status (nine 7 7 7 7 7 7 7 7 1) 0 5000 (pos 100))
 
 -- a lent record, and what it is read as
 pub record LentRow : Type 0 where
@@ -76,10 +85,19 @@ lentRows =
     -- vars, as they stand
     ∷ stands (board 2 (nine 0 0 0 0 0 0 0 0 1) 100 0 (pos 32767))
     ∷ stands (board 0 (nine 0 0 0 0 0 0 0 0 1) 0 0 (negℤ (pos 32768)))
+    -- a recovery count: above 40, and as it stands, tripped or in service
+    ∷ lentRow (recoveringAt 1 41) (recoveringAt 1 40)
+    ∷ lentRow (recoveringAt 4 255) (recoveringAt 4 40)
+    ∷ lentRow (recoveringAt 0 41) (recoveringAt 0 40)
+    ∷ stands (recoveringAt 1 40)
+    ∷ stands (recoveringAt 2 39)
+    ∷ stands (recoveringAt 5 1)
+    ∷ stands (recoveringAt 3 0)
+    ∷ stands (recoveringAt 0 0)
     -- every field at its highest
-    ∷ lentRow (board 255 (nine 4294967295 4294967295 4294967295 4294967295 4294967295 4294967295 4294967295 4294967295 4294967295) 4294967295 65535 (pos 32767))
+    ∷ lentRow (counting 255 (board 255 (nine 4294967295 4294967295 4294967295 4294967295 4294967295 4294967295 4294967295 4294967295 4294967295) 4294967295 65535 (pos 32767)))
     (board 0 (nine 2100 200 1300 16 30000 16 30000 16 1) 0 10000 (pos 32767))
-    ∷ lentRow (board 5 (nine 4294967295 4294967295 4294967295 4294967295 4294967295 4294967295 4294967295 4294967295 4294967295) 4294967295 65535 (pos 32767))
+    ∷ lentRow (counting 255 (board 5 (nine 4294967295 4294967295 4294967295 4294967295 4294967295 4294967295 4294967295 4294967295 4294967295) 4294967295 65535 (pos 32767)))
     (board 5 (nine 2100 200 1300 16 30000 16 30000 16 1) 100 10000 (pos 32767))
     ∷ []
 

@@ -17,7 +17,7 @@ use Rattle.rules.specs.Regions.{ourEquipment}
 use Rattle.rules.specs.Reports.{Items, reportOf}
 use Rattle.rules.specs.History.{History, historyReport}
 use Rattle.rules.specs.Images.{savedInto}
-use Rattle.rules.specs.Service.{inService}
+use Rattle.rules.specs.Service.{inService, recoveryTop, wattsOf}
 use Rattle.rules.specs.Refusals.{answerNumber}
 use Rattle.rules.specs.Records.{fresh, settled, ruled, shown, stepOf}
 use Rattle.rules.specs.Defaults.{defaultSettings}
@@ -76,7 +76,7 @@ reporting st b = record { board = b; answer = Answer.Reported (reportOf (shown o
 
 -- the record of a step, tripped instead
 abbrev trippedInstead : Settings → Slice → Board → Stepped
-trippedInstead st x b = reporting st (settled ourEquipment st x (b .counters) false 0)
+trippedInstead st x b = reporting st (settled ourEquipment st x (b .counters) false 0 recoveryTop)
 
 -- trips before a clearing time is over: in service, as soon as a limit's counter is not 0
 unfoldable pub tripsEarly : Program
@@ -90,7 +90,8 @@ tripsEarly =
 
 -- a record with other counters
 abbrev withCounters : List ℕ → Board → Board
-withCounters ns b = record { status = b .status; counters = ns; ramp = b .ramp; watts = b .watts; vars = b .vars }
+withCounters ns b =
+    record { status = b .status; counters = ns; ramp = b .ramp; watts = b .watts; vars = b .vars; recovery = b .recovery }
 
 -- invents its counters: its reports are right, and its record holds every counter twice over
 unfoldable pub inventsCounters : Program
@@ -163,10 +164,12 @@ showing f =
 
 -- every bit turned over
 abbrev pub turnedOver : Bool → Report → Report
-turnedOver was r = record { status = r .status; bits = 511 - r .bits; share = r .share; watts = r .watts; vars = r .vars }
+turnedOver was r =
+    record { status = r .status; bits = 511 - r .bits; share = r .share; recovery = r .recovery; watts = r .watts; vars = r .vars }
 
 abbrev withStatus : ℕ → Report → Report
-withStatus status r = record { status = status; bits = r .bits; share = r .share; watts = r .watts; vars = r .vars }
+withStatus status r =
+    record { status = status; bits = r .bits; share = r .share; recovery = r .recovery; watts = r .watts; vars = r .vars }
 
 -- `entering` where a board that was in service is tripped
 abbrev pub entering : Bool → Report → Report
@@ -192,17 +195,44 @@ saysTripped = showing tripped
 
 -- an image with 0 in the ramp count's place
 unfoldable pub savedWithoutRamp : Board → List ℕ → List ℕ
-savedWithoutRamp b buffer = savedInto (record { status = b .status; counters = b .counters; ramp = 0; watts = b .watts; vars = b .vars }) buffer
+savedWithoutRamp b buffer =
+    savedInto (record { status = b .status; counters = b .counters; ramp = 0; watts = b .watts; vars = b .vars; recovery = b .recovery }) buffer
 
 -- an image with 0 in the ninth counter's place
 unfoldable pub savedWithoutNinth : Board → List ℕ → List ℕ
 savedWithoutNinth b buffer = savedInto (withCounters (set (b .counters) 8 0) b) buffer
 
+-- an image with 40 in the recovery count's place
+unfoldable pub savedWithoutRecovery : Board → List ℕ → List ℕ
+savedWithoutRecovery b buffer =
+    savedInto (record { status = b .status; counters = b .counters; ramp = b .ramp; watts = b .watts; vars = b .vars; recovery = recoveryTop }) buffer
+
 -- a report whose bits are always 0
 unfoldable pub reportWithoutBits : Settings → History → Items
 reportWithoutBits st h =
     let r = historyReport ourEquipment st h in
-    record { status = r .status; bits = replicate 9 false; share = r .share; watts = r .watts; vars = r .vars }
+    record { status = r .status; bits = replicate 9 false; share = r .share; recovery = r .recovery; watts = r .watts; vars = r .vars }
+
+-- a report with another recovery count and other watts
+abbrev withRecovery : ℕ → ℕ → Items → Items
+withRecovery recovery watts r = record { status = r .status; bits = r .bits; share = r .share; recovery = recovery; watts = watts; vars = r .vars }
+
+-- it shows a full recovery count, whatever came before
+unfoldable pub reportFullAtOnce : Settings → History → Items
+reportFullAtOnce st h = let r = historyReport ourEquipment st h in withRecovery recoveryTop (r .watts) r
+
+-- it counts as it should, and gives what the other limits leave at once: the jolt
+unfoldable pub reportUnheld : Settings → History → Items
+reportUnheld st [] = historyReport ourEquipment st []
+reportUnheld st (x ∷ h) =
+    let r = historyReport ourEquipment st (x ∷ h) in
+    withRecovery (r .recovery) (wattsOf ourEquipment st x (r .status) (r .share) recoveryTop) r
+
+-- it counts as it should, and gives nothing until the count is full: the jolt, 0.4 s later
+unfoldable pub reportWithheld : Settings → History → Items
+reportWithheld st h =
+    let r = historyReport ourEquipment st h in
+    withRecovery (r .recovery) (cond (eqb (r .recovery) recoveryTop) (r .watts) 0) r
 
 -- ---- sham readings of sheets
 

@@ -1,4 +1,4 @@
-// Spec 9: the image of a board record, 45 bytes, high byte first.
+// Spec 9: the image of a board record, 46 bytes, high byte first.
 ghost use mathlib.Core.Path.{_≡_};
 ghost use mathlib.Core.List.{[], _∷_, map};
 ghost use Prim.Native.Nat.{_+_, _≤_};
@@ -55,22 +55,32 @@ fn twos_complement(v: i16) -> u16
     wide as u16
 }
 
+// Watts and vars, in two bytes each.
+fn put_powers(out: &mut [u8], at: usize, watts: u16, vars: i16) -> usize
+    requires { ⌜ at + 4 ≤ length (now out) ⌝ }
+    ensures { λ r. ⌜ Wrote (now (out .entry)) at (now (out .exit)) r (fieldBytes (field 2 watts ∷ field 2 (twosComplement vars) ∷ [])) ⌝ }
+    ensures { λ r. ⌜ r ≡ at + 4 ⌝ }
+{
+    let active = watts as u32;
+    let reactive = twos_complement(vars) as u32;
+    let place = put_bytes(out, at, 2, active);
+    put_bytes(out, place, 2, reactive)
+}
+
 // The image at the front of a buffer that holds it: each field after the one before it.
 fn put_image(out: &mut [u8], b: Board)
     requires { ⌜ imageLength ≤ length (now out) ⌝ }
     ensures { λ _. ⌜ now (out .exit) ≡ written (now (out .entry)) 0 (image b) ⌝ }
 {
     let counters = b.counters;
-    let watts = b.watts as u32;
-    let vars = twos_complement(b.vars) as u32;
     let mut at = put_bytes(out, 0, 1, b.status as u32);
     at = put_counters(out, at, counters);
     at = put_bytes(out, at, 4, b.ramp);
-    at = put_bytes(out, at, 2, watts);
-    put_bytes(out, at, 2, vars);
+    at = put_powers(out, at, b.watts, b.vars);
+    put_bytes(out, at, 1, b.recovery as u32);
 }
 
-// The image at the front of a lent buffer; the bytes after it are untouched. A buffer under 45 bytes keeps every byte.
+// The image at the front of a lent buffer; the bytes after it are untouched. A buffer under 46 bytes keeps every byte.
 pub fn save(b: Board, out: &mut [u8]) -> Saved
     ensures { λ r. ⌜ (r ≡ saveCheck (now (out .entry))) × (now (out .exit) ≡ savedInto b (now (out .entry))) ⌝ }
     ensures { λ r. ⌜ savedNumber r ≡ first (cause 9 (ltb (length (now (out .entry))) imageLength) ∷ []) ⌝ }

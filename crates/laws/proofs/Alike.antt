@@ -75,13 +75,14 @@ module _ (e f : Equipment) (a : Alike e f) (x : Slice) (r : SampleRight x) where
     unfolding varsOf
     vars-alike status = rw mean-alike
 
-    watts-alike : (status share : ℕ) → wattsOf e st x status share ≡ wattsOf f st x status share
+    watts-alike : (status share recovery : ℕ) → wattsOf e st x status share recovery ≡ wattsOf f st x status share recovery
     unfolding wattsOf
-    watts-alike status share = rw (mean-alike, vars-alike status)
+    watts-alike status share recovery = rw (mean-alike, vars-alike status)
 
-    settled-alike : (counters : List ℕ) (on : Bool) (ramp : ℕ) → settled e st x counters on ramp ≡ settled f st x counters on ramp
+    settled-alike : (counters : List ℕ) (on : Bool) (ramp recovery : ℕ)
+        → settled e st x counters on ramp recovery ≡ settled f st x counters on ramp recovery
     unfolding settled
-    settled-alike counters on ramp = rw (region-alike, watts-alike, vars-alike)
+    settled-alike counters on ramp recovery = rw (region-alike, watts-alike, vars-alike)
 
     read-alike : (b : Board) → readAs e st b ≡ readAs f st b
     unfolding readAs

@@ -20,7 +20,7 @@ use Rattle.rules.specs.Regions.{regionOf}
 use Rattle.rules.specs.Service.{statusOf, inService, exports, varsOf, Limited, powerLimits, least, wattsOf}
 use Rattle.rules.specs.Reports.{Items}
 use Rattle.rules.specs.Records.{next, shown}
-use Rattle.rules.specs.History.{History, followedBy, serving, historyStatus, historyShare, historyWatts, historyVars, historyReport}
+use Rattle.rules.specs.History.{History, followedBy, serving, historyStatus, historyShare, historyRecovery, historyWatts, historyVars, historyReport}
 use Rattle.rules.specs.Images.{field, imageFields, image, imageLength, savedInto}
 use Rattle.rules.specs.declared.Settings.{Settings}
 use Rattle.rules.specs.declared.Board.{Board}
@@ -36,7 +36,7 @@ use Rattle.basics.proofs.Bools.{both}
 use Rattle.laws.proofs.Accepted.{sample-right, sheet-rows}
 use Rattle.laws.proofs.Curves.{fits16, var-rises}
 use Rattle.laws.proofs.Least.{least-below}
-use Rattle.laws.proofs.Trace.{counters-are, service-is, ramp-is, status-is, watts-is, vars-is, next-is, shown-is}
+use Rattle.laws.proofs.Trace.{counters-are, service-is, ramp-is, recovery-is, recovery-top, status-is, watts-is, vars-is, next-is, shown-is}
 use Rattle.laws.proofs.Demand2.{run-is}
 use Rattle.laws.proofs.Probes.{AllTellable, all-rules, rules-tellable}
 use Rattle.laws.proofs.Ramps.{ramps-equal}
@@ -64,7 +64,7 @@ module _ (e : Equipment) (st : Settings) where
   watts-below [] a = omega arith
   watts-below (x ∷ h) a =
       let status = historyStatus e st (x ∷ h) in
-      let limits = powerLimits e st x (historyShare e st (x ∷ h)) (varsOf e st x status) in
+      let limits = powerLimits e st x (historyShare e st (x ∷ h)) (historyRecovery e st (x ∷ h)) (varsOf e st x status) in
       by (exports status) (map (λ (l : Limited). l .watts) limits) (omega arith) (sample-right x (a .0) .available-top)
     where
       by : (b : Bool) (ns : List ℕ) → 0 < length ns → getD ns 0 0 ≤ 10000 → cond b (least ns) 0 ≤ 10000
@@ -102,10 +102,11 @@ module _ (e : Equipment) (sound : Sound e) (st : Settings) (ok : settingsAccepte
       let status : recordOf e st h .status < 256 ^ 1 = omega (arith, status-is e st h, status-top e st h) in
       let ramp : recordOf e st h .ramp < 256 ^ 4 = omega (arith, ramp-is e st h, sheet-rows st ok .wait) in
       let watts : recordOf e st h .watts < 256 ^ 2 = omega (arith, watts-is e st h, watts-below e st h a) in
+      let recovery : recordOf e st h .recovery < 256 ^ 1 = omega (arith, recovery-is e st h, recovery-top e st h) in
       record {
         nine = ap length (counters-are e st h);
         signed = vars;
-        rows = (status, each-fit 4 (recordOf e st h .counters) counts _ (ramp, (watts, (complement-below _ vars, tt))));
+        rows = (status, each-fit 4 (recordOf e st h .counters) counts _ (ramp, (watts, (complement-below _ vars, (recovery, tt)))));
       }
 
   -- ---- equal reports, now and after every common run: equal records
@@ -123,6 +124,7 @@ module _ (e : Equipment) (sound : Sound e) (st : Settings) (ok : settingsAccepte
       (ramp-is e st h ∙ ramps-equal e sound st ok h g o f ∙ sym (ramp-is e st g))
       (watts-is e st h ∙ ap (λ (r : Items). r .watts) now ∙ sym (watts-is e st g))
       (vars-is e st h ∙ ap (λ (r : Items). r .vars) now ∙ sym (vars-is e st g))
+      (recovery-is e st h ∙ ap (λ (r : Items). r .recovery) now ∙ sym (recovery-is e st g))
 
   -- ---- equal records: equal reports after every run
 

@@ -1,7 +1,7 @@
 -- The least number of a list: not above any of them, and found by taking them one after the other.
 -- Assumes nothing.
 use mathlib.Core.Path.{_≡_, refl, _∙_}
-use mathlib.Core.List.{List, [], _∷_}
+use mathlib.Core.List.{List, [], _∷_, _++_}
 use Prim.Native.Nat.{ℕ, zero, suc, _≤_, _<_, min}
 use native.Mathlib.Nat.{not-suc-le-zero, le-of-suc-le-suc}
 use native.Mathlib.Omega.{arith}
@@ -14,6 +14,15 @@ least-below (n ∷ []) zero h = omega arith
 least-below (n ∷ []) (suc i) h = absurd (not-suc-le-zero (le-of-suc-le-suc h))
 least-below (n ∷ m ∷ ns) zero h = omega arith
 least-below (n ∷ m ∷ ns) (suc i) h = omega (arith, least-below (m ∷ ns) i (le-of-suc-le-suc h))
+
+-- one more behind the others
+pub least-then : (n : ℕ) (ns : List ℕ) (m : ℕ) → least ((n ∷ ns) ++ (m ∷ [])) ≡ min (least (n ∷ ns)) m
+least-then n [] m = refl
+least-then n (k ∷ ns) m = omega (arith, least-then k ns m)
+
+-- one that is not below the first changes nothing
+pub least-kept : (n : ℕ) (ns : List ℕ) (m : ℕ) → n ≤ m → least ((n ∷ ns) ++ (m ∷ [])) ≡ least (n ∷ ns)
+least-kept n ns m h = omega (arith, least-then n ns m, least-below (n ∷ ns) 0 (omega arith))
 
 -- the smaller of n and the first of the others, then of that and the next, and so on
 abbrev pub inTurn : ℕ → List ℕ → ℕ

@@ -9,7 +9,7 @@ use Rattle.rules.specs.Settings.{settingsAccepted}
 use Rattle.rules.specs.Samples.{Slice, Equipment, sampleAccepted}
 use Rattle.rules.specs.Counters.{Rule, rules}
 use Rattle.rules.specs.Reports.{reportOf}
-use Rattle.rules.specs.Service.{inService}
+use Rattle.rules.specs.Service.{inService, recoveryTop}
 use Rattle.rules.specs.Records.{each, capped, readAs, ruled, next, shown, stepOf}
 use Rattle.rules.specs.History.{History, serving}
 use Rattle.rules.specs.declared.Settings.{Settings}
@@ -22,7 +22,7 @@ use Rattle.claims.specs.TripAndReturn.{recordOf}
 use Rattle.claims.specs.TwoHistories.{AllAccepted}
 use Rattle.basics.proofs.Bools.{both}
 use Rattle.laws.proofs.Images.{same-fields}
-use Rattle.laws.proofs.Trace.{kept-service, counters-are, service-is, ramp-is, status-is, watts-is, read-counters, read-ramp}
+use Rattle.laws.proofs.Trace.{kept-service, counters-are, service-is, ramp-is, recovery-is, status-is, watts-is, read-counters, read-ramp, read-recovery}
 use Rattle.laws.proofs.Demand2.{accepted-step, refused-step, run-is, tripped-status}
 use Rattle.laws.proofs.Demand3.{samples-accepted, watts-below}
 
@@ -56,7 +56,8 @@ module _ (e : Equipment) (st : Settings) where
   unfolding readAs
   read-twice b =
       let once : min 10000 (min 10000 (b .watts)) ≡ min 10000 (b .watts) = omega arith in
-      same-fields (status-twice (b .status)) (each-twice (rules e st) (b .counters)) (ramp-twice (b .status) (st .ramp) (b .ramp)) once refl
+      let recovery : min recoveryTop (min recoveryTop (b .recovery)) ≡ min recoveryTop (b .recovery) = omega arith in
+      same-fields (status-twice (b .status)) (each-twice (rules e st) (b .counters)) (ramp-twice (b .status) (st .ramp) (b .ramp)) once refl recovery
 
   -- ---- an accepted call
 
@@ -84,6 +85,7 @@ module _ (e : Equipment) (st : Settings) where
   read-kept h a =
       let watts : min 10000 (recordOf e st h .watts) ≡ recordOf e st h .watts = omega (arith, watts-is e st h, watts-below e st h a) in
       same-fields (status-kept h) (read-counters e st h ∙ sym (counters-are e st h)) (read-ramp e st h ∙ sym (ramp-is e st h)) watts refl
+      (read-recovery e st h ∙ sym (recovery-is e st h))
 
   run-kept : settingsAccepted st ≡ true → (cs : List Call) → Under st cs
       → readAs e st (runOf (ruledBy e) cs .board) ≡ runOf (ruledBy e) cs .board

@@ -4,6 +4,7 @@ pub mod InRange
 pub mod Counting
 pub mod Trace
 pub mod Bits
+pub mod Recovery
 pub mod Trip
 pub mod Demand2
 pub mod Saturating

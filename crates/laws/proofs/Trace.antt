@@ -1,9 +1,10 @@
 -- A record that is run from fresh under one sheet is the one its history gives, and shows the report that the history gives.
 -- Assumes nothing.
-use mathlib.Core.Path.{_≡_, refl, sym, ap, _∙_}
+use mathlib.Core.Path.{_≡_, refl, sym, ap, ap₂, _∙_}
 use mathlib.Core.Bool.{Bool, true, false, cond}
 use mathlib.Core.List.{List, [], _∷_, map}
-use Prim.Native.Nat.{ℕ, min}
+use mathlib.Core.Option.{Option, none, some}
+use Prim.Native.Nat.{ℕ, _≤_, min}
 use native.Mathlib.Nat.{min-zero}
 use native.Mathlib.Omega.{arith}
 use lib.Dec.{eqb}
@@ -11,11 +12,12 @@ use lib.IntN.{ℤ}
 use Rattle.rules.specs.Tests.{within}
 use Rattle.rules.specs.Samples.{Slice, Equipment}
 use Rattle.rules.specs.Counters.{counted, full, tripRules, readyRule, rules}
-use Rattle.rules.specs.Regions.{regionOf, isContinuous}
-use Rattle.rules.specs.Service.{ramped, statusOf, inService, shareOf}
+use Rattle.rules.specs.Regions.{regionOf, isContinuous, ceases}
+use Rattle.rules.specs.Service.{ramped, statusOf, inService, shareOf, recoveryTop, recovering}
 use Rattle.rules.specs.Reports.{Items}
 use Rattle.rules.specs.Records.{fresh, each, capped, readAs, settled, ruled, next, shown}
 use Rattle.rules.specs.History.{History, streak, complete, serving, climbedMore, climbed, historyStatus, historyShare, historyWatts, historyVars, historyReport}
+use Rattle.rules.specs.History.{sinceMore, sinceCessation, recoveredSince, historyRecovery}
 use Rattle.rules.specs.declared.Settings.{Settings}
 use Rattle.rules.specs.declared.Board.{Board}
 use Rattle.rules.specs.declared.Region.{Region}
@@ -24,13 +26,14 @@ use Rattle.claims.specs.TripAndReturn.{countOf, recordOf}
 use Rattle.basics.proofs.Bools.{eqb-min}
 use Rattle.laws.proofs.Counting.{counted-is, capped-is, full-is, each-of, each-all}
 
-pub same-items : {i j : Items} → i .status ≡ j .status → i .bits ≡ j .bits → i .share ≡ j .share → i .watts ≡ j .watts → i .vars ≡ j .vars → i ≡ j
-same-items e₁ e₂ e₃ e₄ e₅ = made e₁ e₂ e₃ e₄ e₅
+pub same-items : {i j : Items} → i .status ≡ j .status → i .bits ≡ j .bits → i .share ≡ j .share → i .recovery ≡ j .recovery
+    → i .watts ≡ j .watts → i .vars ≡ j .vars → i ≡ j
+same-items e₁ e₂ e₃ e₄ e₅ e₆ = made e₁ e₂ e₃ e₄ e₅ e₆
   where
-    made : {s s′ : ℕ} {b b′ : List Bool} {q q′ w w′ : ℕ} {v v′ : ℤ} → s ≡ s′ → b ≡ b′ → q ≡ q′ → w ≡ w′ → v ≡ v′
-        → _≡_ {A = Items} (record { status = s; bits = b; share = q; watts = w; vars = v })
-        (record { status = s′; bits = b′; share = q′; watts = w′; vars = v′ })
-    made e₁ e₂ e₃ e₄ e₅ = rw (e₁, e₂, e₃, e₄, e₅)
+    made : {s s′ : ℕ} {b b′ : List Bool} {q q′ n n′ w w′ : ℕ} {v v′ : ℤ} → s ≡ s′ → b ≡ b′ → q ≡ q′ → n ≡ n′ → w ≡ w′ → v ≡ v′
+        → _≡_ {A = Items} (record { status = s; bits = b; share = q; recovery = n; watts = w; vars = v })
+        (record { status = s′; bits = b′; share = q′; recovery = n′; watts = w′; vars = v′ })
+    made e₁ e₂ e₃ e₄ e₅ e₆ = rw (e₁, e₂, e₃, e₄, e₅, e₆)
 
 pub service-status : (on : Bool) (r : Region) (f : Bool) → inService (statusOf on r f) ≡ on
 unfolding within
@@ -50,6 +53,19 @@ kept-service status = by (inService status) refl
     by true p = p
     by false p = refl
 
+-- a recovery count is 40 at the most
+since-top : (o : Option ℕ) → recoveredSince o ≤ recoveryTop
+since-top none = omega arith
+since-top (some n) = omega arith
+
+-- one sample more counts alike, on the count and on what it counts
+pub since-step : (was on c : Bool) (o : Option ℕ) → recovering was on c (recoveredSince o) ≡ recoveredSince (sinceMore was on c o)
+since-step was false c o = refl
+since-step false true c o = refl
+since-step true true true o = refl
+since-step true true false none = refl
+since-step true true false (some n) = omega arith
+
 module _ (e : Equipment) (st : Settings) where
   -- ---- what the record holds, read off the history
 
@@ -67,6 +83,15 @@ module _ (e : Equipment) (st : Settings) where
   unfolding recordOf settled fresh climbed
   ramp-is [] = sym (min-zero (st .ramp))
   ramp-is (x ∷ h) = refl
+
+  pub recovery-is : (h : History) → recordOf e st h .recovery ≡ historyRecovery e st h
+  unfolding recordOf settled fresh historyRecovery sinceCessation
+  recovery-is [] = refl
+  recovery-is (x ∷ h) = refl
+
+  pub recovery-top : (h : History) → historyRecovery e st h ≤ recoveryTop
+  unfolding historyRecovery
+  recovery-top h = since-top (sinceCessation e st h)
 
   pub tripped-climbed : (h : History) → serving e st h ≡ false → climbed e st h ≡ 0
   unfolding climbed
@@ -91,6 +116,10 @@ module _ (e : Equipment) (st : Settings) where
       by true p = omega arith
       by false p = omega (arith, tripped-climbed h p)
 
+  pub read-recovery : (h : History) → readAs e st (recordOf e st h) .recovery ≡ historyRecovery e st h
+  unfolding readAs
+  read-recovery h = omega (arith, recovery-is h, recovery-top h)
+
   -- ---- one accepted sample more
 
   ramp-step : (was on c : Bool) (top n : ℕ) → ramped was on c top (min top n) ≡ min top (climbedMore was on c n)
@@ -99,23 +128,24 @@ module _ (e : Equipment) (st : Settings) where
   ramp-step true true true top n = omega arith
   ramp-step true true false top n = omega arith
 
-  -- the rules look at three parts of a record: its counters, whether it is in service, and its ramp
+  -- the rules look at four parts of a record: its counters, whether it is in service, its ramp and its recovery
   ruled-is : (b : Board) (h : History) (x : Slice) → b .counters ≡ map (countOf h) (rules e st) → inService (b .status) ≡ serving e st h
-      → b .ramp ≡ min (st .ramp) (climbed e st h)
+      → b .ramp ≡ min (st .ramp) (climbed e st h) → b .recovery ≡ historyRecovery e st h
       → ruled e st x b ≡ recordOf e st (x ∷ h)
-  unfolding ruled recordOf serving climbed
-  ruled-is b h x e₁ e₂ e₃ =
+  unfolding ruled recordOf serving climbed historyRecovery sinceCessation
+  ruled-is b h x e₁ e₂ e₃ e₄ =
       let cs : each (counted x) (rules e st) (b .counters) ≡ map (countOf (x ∷ h)) (rules e st)
       = ap (each (counted x) (rules e st)) e₁ ∙ each-all (counted x) (countOf (x ∷ h)) h (counted-is x h) (rules e st) in
       let ts : each full (tripRules e st) (map (countOf (x ∷ h)) (rules e st)) ≡ map (complete (x ∷ h)) (tripRules e st)
       = each-of full (complete (x ∷ h)) (x ∷ h) (full-is (x ∷ h)) (tripRules e st) (readyRule e st ∷ []) in
-      rw (cs, e₂, e₃, ts, full-is (x ∷ h) (readyRule e st))
-      (ap (settled e st x (map (countOf (x ∷ h)) (rules e st)) (serving e st (x ∷ h)))
-      (ramp-step (serving e st h) (serving e st (x ∷ h)) (isContinuous (regionOf e x)) (st .ramp) (climbed e st h)))
+      rw (cs, e₂, e₃, e₄, ts, full-is (x ∷ h) (readyRule e st))
+      (ap₂ (settled e st x (map (countOf (x ∷ h)) (rules e st)) (serving e st (x ∷ h)))
+      (ramp-step (serving e st h) (serving e st (x ∷ h)) (isContinuous (regionOf e x)) (st .ramp) (climbed e st h))
+      (since-step (serving e st h) (serving e st (x ∷ h)) (ceases (regionOf e x)) (sinceCessation e st h)))
 
   pub next-is : (h : History) (x : Slice) → next e st x (recordOf e st h) ≡ recordOf e st (x ∷ h)
   unfolding next
-  next-is h x = ruled-is (readAs e st (recordOf e st h)) h x (read-counters h) (read-service h) (read-ramp h)
+  next-is h x = ruled-is (readAs e st (recordOf e st h)) h x (read-counters h) (read-service h) (read-ramp h) (read-recovery h)
 
   -- ---- the record of a history shows the history's report
 
@@ -138,4 +168,4 @@ module _ (e : Equipment) (st : Settings) where
   unfolding shown historyReport historyShare
   shown-is h =
       same-items (status-is h) (ap (each full (rules e st)) (counters-are h) ∙ each-all full (complete h) h (full-is h) (rules e st))
-      (ap (shareOf st) (ramp-is h)) (watts-is h) (vars-is h)
+      (ap (shareOf st) (ramp-is h)) (recovery-is h) (watts-is h) (vars-is h)

@@ -32,21 +32,27 @@ pub numbers-end : (e : List ℕ) {d d₁ : List ℕ} {at r₁ : ℕ} → Wrote d
 unfolding spacedNumbers
 numbers-end e w = w
 
--- the numbers that a line shows after the share
-abbrev pub afterShare : Report → List ℤ
-afterShare r = drop 1 (reportNumbers r)
+-- the numbers that a line shows after its front
+abbrev pub afterFront : Report → List ℤ
+afterFront r = drop 2 (reportNumbers r)
 
-pub report-pieces : (r : Report) → reportLine r ≡ reportFront r ++ (spacedNumbers (afterShare r) ++ bytes ")\n")
+pub report-pieces : (r : Report) → reportLine r ≡ reportFront r ++ (spacedNumbers (afterFront r) ++ bytes ")\n")
 unfolding reportFront spacedNumbers
 report-pieces r = report-whole r ∙ simp append-assoc
 
 -- the front of a steady report
-pub steady-front : (r : Report) → isSteady r ≡ true → reportFront r ≡ bytes "(report continuous 000000001 10000"
+pub steady-front : (r : Report) → isSteady r ≡ true → reportFront r ≡ bytes "(report continuous 000000001 10000 40"
 unfolding reportFront reportHead spaced signedDecimal statusWord bitDigits decimal digitsBefore
 steady-front r t =
     let status = both _ _ t in
-    let rest = both _ _ (status .1) in
-    rw (eqb-true (r .status) 2 (status .0), eqb-true (r .bits) 1 (rest .0), eqb-true (r .share) 10000 (rest .1))
+    let bits = both _ _ (status .1) in
+    let share = both _ _ (bits .1) in
+    rw (
+      eqb-true (r .status) 2 (status .0),
+      eqb-true (r .bits) 1 (bits .0),
+      eqb-true (r .share) 10000 (share .0),
+      eqb-true (r .recovery) 40 (share .1),
+    )
 
 pub refused-pieces : (cause : Refusal) (line : ℕ)
     → refusedLine cause line ≡ bytes "(refused" ++ (spaced (pos (refusalNumber cause)) ++ (spaced (pos line) ++ bytes ")\n"))

@@ -6,6 +6,7 @@ use Prim.Native.Nat.{ℕ, _+_}
 use lib.Dec.{eqb}
 use lib.IntN.{pos}
 use Rattle.rules.specs.Text.{bytes}
+use Rattle.rules.specs.Service.{recoveryTop}
 use Rattle.rules.specs.Transcripts.{bitDigits, spaced}
 use Rattle.rules.specs.declared.Report.{Report}
 use Rattle.pieces.specs.Pieces.{statusWord, numberRoom}
@@ -14,13 +15,13 @@ use Rattle.pieces.specs.Pieces.{statusWord, numberRoom}
 unfoldable pub reportHead : Report → List ℕ
 reportHead r = bytes "(report " ++ (statusWord (r .status) ++ (bytes " " ++ bitDigits 9 (r .bits)))
 
--- a line's begin, as far as the share
+-- a line's begin, as far as the recovery count
 unfoldable pub reportFront : Report → List ℕ
-reportFront r = reportHead r ++ spaced (pos (r .share))
+reportFront r = reportHead r ++ (spaced (pos (r .share)) ++ spaced (pos (r .recovery)))
 
--- status continuous, of the nine bits ready alone, full share
+-- status continuous, of the nine bits ready alone, full share, full recovery
 abbrev pub isSteady : Report → Bool
-isSteady r = eqb (r .status) 2 && (eqb (r .bits) 1 && eqb (r .share) 10000)
+isSteady r = eqb (r .status) 2 && (eqb (r .bits) 1 && (eqb (r .share) 10000 && eqb (r .recovery) recoveryTop))
 
 -- ---- room: no front is longer
 
@@ -29,4 +30,4 @@ abbrev pub headRoom : ℕ
 headRoom = 28
 
 abbrev pub frontRoom : ℕ
-frontRoom = headRoom + numberRoom
+frontRoom = headRoom + numberRoom + numberRoom

@@ -12,6 +12,7 @@ use pieces::numbers::put_long_number;
 use pieces::numbers::put_number;
 use pieces::numbers::put_signed_number;
 use pieces::words::put_word;
+use rules::RECOVERY_TOP;
 use rules::Refusal;
 use rules::Report;
 use rules::refusal_number;
@@ -28,7 +29,7 @@ fn put_head(out: &mut [u8], at: usize, report: Report) -> usize
     put_bits(out, c, report.bits)
 }
 
-// Continuous, of the nine bits ready alone, full share: what is reported most.
+// Continuous, of the nine bits ready alone, full share, full recovery: what is reported most.
 fn is_steady(report: Report) -> bool
     ensures { λ r. ⌜ r ≡ isSteady report ⌝ }
 {
@@ -38,20 +39,25 @@ fn is_steady(report: Report) -> bool
     if report.bits != 1 {
         return false;
     }
-    report.share == 10000
+    if report.share != 10000 {
+        return false;
+    }
+    report.recovery == RECOVERY_TOP
 }
 
-// The line as far as the share: at once where it is the steady one, and otherwise piece by piece.
+// The line as far as the recovery count: at once where it is the steady one, and otherwise piece by piece.
 fn put_front(out: &mut [u8], at: usize, report: Report) -> usize
     requires { ⌜ at + lineRoom ≤ length (now out) ⌝ }
     ensures { λ r. ⌜ Wrote (now (out .entry)) at (now (out .exit)) r (reportFront report) ⌝ }
     ensures { λ r. ⌜ r ≤ at + frontRoom ⌝ }
 {
     if is_steady(report) {
-        return put(out, at, b"(report continuous 000000001 10000");
+        return put(out, at, b"(report continuous 000000001 10000 40");
     }
+    let recovery = report.recovery as u16;
     let a = put_head(out, at, report);
-    put_number(out, a, report.share)
+    let b = put_number(out, a, report.share);
+    put_number(out, b, recovery)
 }
 
 // A report: status word, nine bits and the numbers, the share first.

@@ -3,14 +3,15 @@
 -- Assumes nothing.
 use mathlib.Core.Bool.{Bool, true, false, cond}
 use mathlib.Core.List.{List, [], _∷_, map}
+use mathlib.Core.Option.{Option, none, some}
 use Prim.Native.Nat.{ℕ, suc, min}
 use lib.Dec.{leb}
 use lib.IntN.{ℤ, pos}
 use Rattle.rules.specs.Tests.{any}
 use Rattle.rules.specs.Samples.{Slice, Equipment, permitted}
 use Rattle.rules.specs.Counters.{Rule, tripRules, readyRule, rules}
-use Rattle.rules.specs.Regions.{regionOf, isContinuous}
-use Rattle.rules.specs.Service.{serves, statusOf, shareOf, varsOf, wattsOf}
+use Rattle.rules.specs.Regions.{regionOf, isContinuous, ceases}
+use Rattle.rules.specs.Service.{serves, statusOf, shareOf, recoveryTop, varsOf, wattsOf}
 use Rattle.rules.specs.Reports.{Items}
 use Rattle.rules.specs.declared.Settings.{Settings}
 
@@ -51,6 +52,25 @@ climbed e st [] = 0
 climbed e st (x ∷ h) =
     climbedMore (serving e st h) (serving e st (x ∷ h)) (isContinuous (regionOf e x)) (climbed e st h)
 
+-- spec 6.15: how many samples have come in service since the last one in service in momentary cessation or where it ceases to energize;
+-- none where there was no such one since the return
+abbrev pub sinceMore : Bool → Bool → Bool → Option ℕ → Option ℕ
+sinceMore was false ceasing n = none
+sinceMore false true ceasing n = none
+sinceMore true true true n = some 0
+sinceMore true true false none = none
+sinceMore true true false (some n) = some (suc n)
+
+unfoldable pub sinceCessation : Equipment → Settings → History → Option ℕ
+sinceCessation e st [] = none
+sinceCessation e st (x ∷ h) =
+    sinceMore (serving e st h) (serving e st (x ∷ h)) (ceases (regionOf e x)) (sinceCessation e st h)
+
+-- that many, up to 40; 40 where there was none
+abbrev pub recoveredSince : Option ℕ → ℕ
+recoveredSince none = recoveryTop
+recoveredSince (some n) = min recoveryTop n
+
 unfoldable pub historyStatus : Equipment → Settings → History → ℕ
 historyStatus e st [] = 0
 historyStatus e st (x ∷ h) = statusOf (serving e st (x ∷ h)) (regionOf e x) (leb (st .ramp) (climbed e st (x ∷ h)))
@@ -58,9 +78,13 @@ historyStatus e st (x ∷ h) = statusOf (serving e st (x ∷ h)) (regionOf e x) 
 unfoldable pub historyShare : Equipment → Settings → History → ℕ
 historyShare e st h = shareOf st (min (st .ramp) (climbed e st h))
 
+unfoldable pub historyRecovery : Equipment → Settings → History → ℕ
+historyRecovery e st h = recoveredSince (sinceCessation e st h)
+
 unfoldable pub historyWatts : Equipment → Settings → History → ℕ
 historyWatts e st [] = 0
-historyWatts e st (x ∷ h) = wattsOf e st x (historyStatus e st (x ∷ h)) (historyShare e st (x ∷ h))
+historyWatts e st (x ∷ h) =
+    wattsOf e st x (historyStatus e st (x ∷ h)) (historyShare e st (x ∷ h)) (historyRecovery e st (x ∷ h))
 
 unfoldable pub historyVars : Equipment → Settings → History → ℤ
 historyVars e st [] = pos 0
@@ -73,6 +97,7 @@ historyReport e st h =
       status = historyStatus e st h;
       bits = map (complete h) (rules e st);
       share = historyShare e st h;
+      recovery = historyRecovery e st h;
       watts = historyWatts e st h;
       vars = historyVars e st h;
     }

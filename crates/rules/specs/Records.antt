@@ -10,8 +10,8 @@ use Rattle.rules.specs.Tests.{any}
 use Rattle.rules.specs.Settings.{settingsCheck}
 use Rattle.rules.specs.Samples.{Slice, Equipment, permitted, sampleCheck}
 use Rattle.rules.specs.Counters.{Rule, counted, full, tripRules, readyRule, rules}
-use Rattle.rules.specs.Regions.{regionOf, isContinuous}
-use Rattle.rules.specs.Service.{serves, ramped, statusOf, inService, shareOf, varsOf, wattsOf}
+use Rattle.rules.specs.Regions.{regionOf, isContinuous, ceases}
+use Rattle.rules.specs.Service.{serves, ramped, statusOf, inService, shareOf, recoveryTop, recovering, varsOf, wattsOf}
 use Rattle.rules.specs.Reports.{Items, reportOf}
 use Rattle.rules.specs.declared.Settings.{Settings}
 use Rattle.rules.specs.declared.Board.{Board}
@@ -23,7 +23,7 @@ use Rattle.rules.specs.declared.Stepped.{Stepped}
 
 -- spec 5.3: a fresh board
 unfoldable pub fresh : Board
-fresh = record { status = 0; counters = replicate 9 0; ramp = 0; watts = 0; vars = pos 0 }
+fresh = record { status = 0; counters = replicate 9 0; ramp = 0; watts = 0; vars = pos 0; recovery = recoveryTop }
 
 -- something of each rule and its counter, in order
 unfoldable pub each {ℓ} : {A : Type ℓ} → (Rule → ℕ → A) → List Rule → List ℕ → List A
@@ -35,7 +35,7 @@ each f (r ∷ rs) (n ∷ ns) = f r n ∷ each f rs ns
 abbrev pub capped : Rule → ℕ → ℕ
 capped r n = min (r .top) n
 
--- spec 5.4, whole; the rules look at counters, service and ramp alone
+-- spec 5.4, whole; the rules look at counters, service, ramp and recovery alone
 unfoldable pub readAs : Equipment → Settings → Board → Board
 readAs e st b =
     record {
@@ -44,18 +44,20 @@ readAs e st b =
       ramp = cond (inService (b .status)) (min (st .ramp) (b .ramp)) 0;
       watts = min 10000 (b .watts);
       vars = b .vars;
+      recovery = min recoveryTop (b .recovery);
     }
 
--- spec 6.13 to 7.6: the record, from: the nine counters, in service, the ramp count
-unfoldable pub settled : Equipment → Settings → Slice → List ℕ → Bool → ℕ → Board
-settled e st x counters on ramp =
+-- spec 6.13 to 7.7: the record, from: the nine counters, in service, the ramp count, the recovery count
+unfoldable pub settled : Equipment → Settings → Slice → List ℕ → Bool → ℕ → ℕ → Board
+settled e st x counters on ramp recovery =
     let status = statusOf on (regionOf e x) (eqb ramp (st .ramp)) in
     record {
       status = status;
       counters = counters;
       ramp = ramp;
-      watts = wattsOf e st x status (shareOf st ramp);
+      watts = wattsOf e st x status (shareOf st ramp) recovery;
       vars = varsOf e st x status;
+      recovery = recovery;
     }
 
 -- spec 6: what an accepted sample makes of a record that is in order
@@ -67,6 +69,7 @@ ruled e st x b =
     let was = inService (b .status) in
     let on = serves was (permitted x) trip ready in
     settled e st x counters on (ramped was on (isContinuous (regionOf e x)) (st .ramp) (b .ramp))
+    (recovering was on (ceases (regionOf e x)) (b .recovery))
 
 -- what an accepted sample makes of a lent record
 unfoldable pub next : Equipment → Settings → Slice → Board → Board
@@ -79,6 +82,7 @@ shown e st b =
       status = b .status;
       bits = each full (rules e st) (b .counters);
       share = shareOf st (b .ramp);
+      recovery = b .recovery;
       watts = b .watts;
       vars = b .vars;
     }

@@ -44,6 +44,13 @@ isContinuous Mandatory = false
 isContinuous Momentary = false
 isContinuous Cease = false
 
+-- spec 6.15: momentary cessation or cease to energize: the regions in which a board in service gives no power
+abbrev pub ceases : Region → Bool
+ceases Continuous = false
+ceases Mandatory = false
+ceases Momentary = true
+ceases Cease = true
+
 -- our board: the sensing of spec 2.2 and the voltage regions of spec 6.7
 abbrev pub ourEquipment : Equipment
 ourEquipment = record { sensing = voltage; region = voltageRegion }

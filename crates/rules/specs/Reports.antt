@@ -11,6 +11,7 @@ pub record Items : Type 0 where
   pub status : ℕ
   pub bits : List Bool
   pub share : ℕ
+  pub recovery : ℕ
   pub watts : ℕ
   pub vars : ℤ
 
@@ -26,6 +27,7 @@ reportOf i =
       status = i .status;
       bits = packedAfter 0 (i .bits);
       share = i .share;
+      recovery = i .recovery;
       watts = i .watts;
       vars = i .vars;
     }

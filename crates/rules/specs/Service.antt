@@ -1,7 +1,7 @@
--- Spec 6.10 to 6.14, 7.3 to 7.6: trip and return, ramp, status, share, and the powers.
+-- Spec 6.10 to 6.15, 7.3 to 7.7: trip and return, ramp, status, share, recovery, and the powers.
 -- Assumes nothing.
 use mathlib.Core.Bool.{Bool, true, false, cond, not, _&&_}
-use mathlib.Core.List.{List, [], _∷_, map}
+use mathlib.Core.List.{List, [], _∷_, _++_, map}
 use Prim.Native.Nat.{ℕ, suc, _*_, _/_, min}
 use lib.IntN.{ℤ, pos, natAbs}
 use Rattle.rules.specs.Tests.{within}
@@ -43,6 +43,20 @@ exports status = within 1 3 status
 abbrev pub shareOf : Settings → ℕ → ℕ
 shareOf st ramp = 10000 * ramp / st .ramp
 
+-- spec 6.15: how many steps it takes until power is back after a cessation: 0.4 s
+abbrev pub recoveryTop : ℕ
+recoveryTop = 40
+
+-- spec 6.15: the recovery count after the step, from: in service before and after, a region in which it ceases, the count before
+abbrev pub recovering : Bool → Bool → Bool → ℕ → ℕ
+recovering was false ceasing n = recoveryTop
+recovering false true ceasing n = recoveryTop
+recovering true true ceasing n = cond ceasing 0 (min recoveryTop (suc n))
+
+-- spec 7.7: the power that a recovery count lets through
+abbrev pub recoveryLimit : ℕ → ℕ
+recoveryLimit recovery = 10000 * recovery / recoveryTop
+
 -- spec 7.3, 7.6: vars
 unfoldable pub varsOf : Equipment → Settings → Slice → ℕ → ℤ
 varsOf e st x status = cond (exports status) (curve (st .var) (mean e x)) (pos 0)
@@ -53,7 +67,7 @@ wattCurve e st x = natAbs (curve (st .watt) (mean e x))
 
 -- spec 7.5: what limits active power, by name
 pub data PowerLimit : Type 0 where
-  availablePower operatorsLimit rampShare voltWatt nameplateRating : PowerLimit
+  availablePower operatorsLimit rampShare voltWatt nameplateRating cessationRecovery : PowerLimit
 
 -- a limit, and the watts that it leaves
 pub record Limited : Type 0 where
@@ -63,9 +77,9 @@ pub record Limited : Type 0 where
 abbrev pub leaves : PowerLimit → ℕ → Limited
 leaves limit watts = record { limit = limit; watts = watts }
 
--- spec 7.5: the limits of a sample in their standing order, from the share and the vars
-abbrev pub powerLimits : Equipment → Settings → Slice → ℕ → ℤ → List Limited
-powerLimits e st x share vars =
+-- spec 7.5: the limits that stand whatever came before, in their order, from the share and the vars
+abbrev pub standingLimits : Equipment → Settings → Slice → ℕ → ℤ → List Limited
+standingLimits e st x share vars =
     leaves availablePower (available x)
     ∷ leaves operatorsLimit (operatorLimit x)
     ∷ leaves rampShare share
@@ -73,13 +87,21 @@ powerLimits e st x share vars =
     ∷ leaves nameplateRating (nameplate vars)
     ∷ []
 
+-- spec 7.5: all limits of a sample, that of the recovery count last
+abbrev pub powerLimits : Equipment → Settings → Slice → ℕ → ℕ → ℤ → List Limited
+powerLimits e st x share recovery vars = standingLimits e st x share vars ++ (leaves cessationRecovery (recoveryLimit recovery) ∷ [])
+
 -- the least number of a list
 abbrev pub least : List ℕ → ℕ
 least [] = 0
 least (n ∷ []) = n
 least (n ∷ m ∷ ns) = min n (least (m ∷ ns))
 
+-- the least that limits leave
+abbrev pub leftBy : List Limited → ℕ
+leftBy limits = least (map (λ l. l .watts) limits)
+
 -- spec 7.5, 7.6: in statuses 1 to 3 the least that a limit leaves
-unfoldable pub wattsOf : Equipment → Settings → Slice → ℕ → ℕ → ℕ
-wattsOf e st x status share =
-    cond (exports status) (least (map (λ l. l .watts) (powerLimits e st x share (varsOf e st x status)))) 0
+unfoldable pub wattsOf : Equipment → Settings → Slice → ℕ → ℕ → ℕ → ℕ
+wattsOf e st x status share recovery =
+    cond (exports status) (leftBy (powerLimits e st x share recovery (varsOf e st x status))) 0

@@ -10,7 +10,10 @@ pub const SHEET_LINES: usize = 13;
 pub const LINE_ROOM: usize = 128;
 
 // How many bytes an image has: no shorter buffer takes it; `imageLength` in specs/.
-pub const IMAGE_LENGTH: usize = 45;
+pub const IMAGE_LENGTH: usize = 46;
+
+// How many steps it takes until power is back after a cessation; `recoveryTop` in specs/.
+pub const RECOVERY_TOP: u8 = 40;
 
 // A trip line: a voltage or frequency limit, and its clearing time in steps.
 #[repr(C)]
@@ -45,11 +48,12 @@ pub struct Settings {
     pub watt: [Point; 2],
 }
 
-// The board record that a host keeps and lends: its nine counters are the limits' in sheet order and then the ninth, and
-// `ramp` is the ramp count.
+// The board record that a host keeps and lends: its nine counters are the limits' in sheet order and then the ninth,
+// `ramp` is the ramp count, and `recovery` the recovery count, which stands where it costs no room.
 #[repr(C)]
 pub struct Board {
     pub status: u8,
+    pub recovery: u8,
     pub counters: [u32; 9],
     pub ramp: u32,
     pub watts: u16,
@@ -60,6 +64,7 @@ pub struct Board {
 #[repr(C)]
 pub struct Report {
     pub status: u8,
+    pub recovery: u8,
     pub bits: u16,
     pub share: u16,
     pub watts: u16,

@@ -15,9 +15,9 @@ use Rattle.rules.specs.Tests.{any}
 use Rattle.rules.specs.Settings.{settingsCheck, settingsPassed, settingsAccepted}
 use Rattle.rules.specs.Samples.{Slice, Equipment, permitted, available, operatorLimit, mean, sampleCheck}
 use Rattle.rules.specs.Counters.{Rule, counted, full, broken, inRange, tripRules, readyRule, rules}
-use Rattle.rules.specs.Regions.{voltageRegion, regionOf, isContinuous}
+use Rattle.rules.specs.Regions.{voltageRegion, regionOf, isContinuous, ceases}
 use Rattle.rules.specs.Curves.{curve, nameplate}
-use Rattle.rules.specs.Service.{serves, ramped, inService, exports, varsOf, wattCurve, wattsOf}
+use Rattle.rules.specs.Service.{serves, ramped, inService, exports, recoveryTop, recovering, recoveryLimit, varsOf, wattCurve, wattsOf}
 use Rattle.rules.specs.Reports.{packedAfter}
 use Rattle.rules.specs.Records.{each, capped, readAs, settled, ruled, next, turnedAway, onSample, onSettings, stepOf}
 use Rattle.rules.specs.declared.Settings.{Settings}
@@ -59,16 +59,16 @@ module _ (e : Equipment) (s : Settings) (x : Slice) (r : Reading) (q : readingOf
   vars-on z p = rw on (p ∙ ap (curve (s .var)) mean-is)
 
   -- the limits in their standing order, one taken after the other
-  pub watts-on : (share : ℕ) (z : ℤ) (c w : ℕ) → z ≡ curve (s .var) (r .sum / 3) → c ≡ natAbs (curve (s .watt) (r .sum / 3))
-      → w ≡ inTurn (r .available) (r .limit ∷ share ∷ c ∷ nameplate z ∷ [])
-      → w ≡ wattsOf e s x status share
+  pub watts-on : (share recovery : ℕ) (z : ℤ) (c w : ℕ) → z ≡ curve (s .var) (r .sum / 3) → c ≡ natAbs (curve (s .watt) (r .sum / 3))
+      → w ≡ inTurn (r .available) (r .limit ∷ share ∷ c ∷ nameplate z ∷ recoveryLimit recovery ∷ [])
+      → w ≡ wattsOf e s x status share recovery
   unfolding wattsOf
-  watts-on share z c w p k m =
+  watts-on share recovery z c w p k m =
       let a : r .available ≡ available x = ap (λ (y : Reading). y .available) (sym q) in
       let l : r .limit ≡ operatorLimit x = ap (λ (y : Reading). y .limit) (sym q) in
       let v : nameplate z ≡ nameplate (varsOf e s x status) = ap nameplate (vars-on z p) in
       let d : c ≡ wattCurve e s x = k ∙ ap (λ (n : ℕ). natAbs (curve (s .watt) n)) mean-is in
-      rw on (m ∙ in-turn (r .available) (r .limit ∷ share ∷ c ∷ nameplate z ∷ []) ∙ rw (a, l, d, v))
+      rw on (m ∙ in-turn (r .available) (r .limit ∷ share ∷ c ∷ nameplate z ∷ recoveryLimit recovery ∷ []) ∙ rw (a, l, d, v))
 
 -- ---- the counters, on a reading and on the sample
 
@@ -109,7 +109,7 @@ full-last (q ∷ rs) r [] k h l = absurd (omega arith)
 full-last (q ∷ rs) r (n ∷ ns) zero h l = absurd (omega arith)
 full-last (q ∷ rs) r (n ∷ ns) (suc k) h l = ap (λ (bs : List Bool). full q n ∷ bs) (full-last rs r ns k (suc-inj h) (suc-inj l))
 
--- ---- counters, trip, return and ramp
+-- ---- counters, trip, return, ramp and recovery
 
 pub ramp-top : (was on continuous : Bool) (length old : ℕ) → ramped was on continuous length (cond was (min length old) 0) ≤ length
 ramp-top was false continuous length old = omega arith
@@ -126,6 +126,8 @@ pub record Found : Type 0 where
   pub area : Region
   pub continues : Bool
   pub ramp : ℕ
+  pub ceasing : Bool
+  pub recovery : ℕ
 
 -- what its parts promise of that, for a reading r and a record b
 pub record Promised (s : Settings) (r : Reading) (b : Board) (f : Found) : Type 0 where
@@ -136,6 +138,8 @@ pub record Promised (s : Settings) (r : Reading) (b : Board) (f : Found) : Type 
   pub place : f .area ≡ regionAt r
   pub steady : f .continues ≡ isContinuous (f .area)
   pub climb : f .ramp ≡ ramped (f .was) (f .on) (f .continues) (s .ramp) (cond (f .was) (min (s .ramp) (b .ramp)) 0)
+  pub cessation : f .ceasing ≡ ceases (f .area)
+  pub recovers : f .recovery ≡ recovering (f .was) (f .on) (f .ceasing) (min recoveryTop (b .recovery))
 
 module _ (e : Equipment) (s : Settings) (x : Slice) (r : Reading) (regions : e .region ≡ voltageRegion) (q : readingOf e x ≡ r)
     (b : Board) (nine : length (b .counters) ≡ 9) (f : Found) (p : Promised s r b f) where
@@ -172,9 +176,13 @@ module _ (e : Equipment) (s : Settings) (x : Slice) (r : Reading) (regions : e .
   unfolding readAs
   ramp-is = p .climb ∙ rw (p .steady, region-found, p .before)
 
-  pub advance-is : settled e s x (f .counters) (f .on) (f .ramp) ≡ next e s x b
+  recovery-is : f .recovery ≡ recovering (f .was) (f .on) (ceases (regionOf e x)) (readAs e s b .recovery)
+  unfolding readAs
+  recovery-is = p .recovers ∙ rw (p .cessation, region-found)
+
+  pub advance-is : settled e s x (f .counters) (f .on) (f .ramp) (f .recovery) ≡ next e s x b
   unfolding next ruled
-  advance-is = rw (ramp-is, on-is, was-is, counters-are)
+  advance-is = rw (ramp-is, recovery-is, on-is, was-is, counters-are)
 
 -- ---- refused calls
 

@@ -1,4 +1,4 @@
-// Spec 7.3 to 7.6: watts and vars.
+// Spec 7.3 to 7.7: watts and vars.
 ghost use mathlib.Core.Path.{_≡_};
 ghost use Prim.Native.Nat.{_≤_};
 ghost use lib.IntN.{natAbs};
@@ -10,6 +10,7 @@ use power::volt_watt;
 use power::within_nameplate;
 use readings::reading::Reading;
 use readings::reading::smaller;
+use recovery::within_recovery;
 use rules::Settings;
 
 pub struct Powers {
@@ -19,10 +20,10 @@ pub struct Powers {
 
 // What a board in this status gives. In statuses 1 to 3 the curves are read at the mean voltage, and watts are the least that a limit
 // leaves, taken in their standing order, one to a line; in others both powers are 0.
-pub fn powers_in(r: Reading, s: Settings, status: u8, share: u32) -> Powers
+pub fn powers_in(r: Reading, s: Settings, status: u8, share: u32, recovery: u8) -> Powers
     requires { ⌜ Exportable r s ⌝ }
     ensures { λ p. ⌜ ((e : Equipment) (x : Slice) → readingOf e x ≡ r → p .vars ≡ varsOf e s x status) ⌝ }
-    ensures { λ p. ⌜ ((e : Equipment) (x : Slice) → readingOf e x ≡ r → p .watts ≡ wattsOf e s x status share) ⌝ }
+    ensures { λ p. ⌜ ((e : Equipment) (x : Slice) → readingOf e x ≡ r → p .watts ≡ wattsOf e s x status share recovery) ⌝ }
     ensures { λ p. ⌜ (p .watts ≤ 10000) × (natAbs (p .vars) ≤ 10000) ⌝ }
 {
     if status < 1 {
@@ -40,6 +41,7 @@ pub fn powers_in(r: Reading, s: Settings, status: u8, share: u32) -> Powers
     let p = smaller(p, r.limit);
     let p = smaller(p, share);
     let p = smaller(p, curve);
-    let watts = within_nameplate(p, vars);
+    let p = within_nameplate(p, vars);
+    let watts = within_recovery(p, recovery);
     Powers { watts, vars }
 }

@@ -19,12 +19,15 @@ use crate::powers::powers_in;
 use readings::reading::Reading;
 use readings::reading::check;
 use readings::reading::read;
+use recovery::ceases;
+use recovery::recovery_after;
 use ridethrough::counters::Counters;
 use ridethrough::counters::count_all;
 use ridethrough::counters::in_range;
 use ridethrough::regions::region;
 use rules::Answer;
 use rules::Board;
+use rules::RECOVERY_TOP;
 use rules::Region;
 use rules::Report;
 use rules::SampleCheck;
@@ -33,7 +36,7 @@ use rules::SettingsCheck;
 use rules::Stepped;
 use sensing::table;
 
-// A fresh board: tripped, with all counters, ramp, watts and vars 0.
+// A fresh board (spec 5.3): tripped, with all counters, ramp, watts and vars 0, and a full recovery count.
 pub fn fresh() -> Board
     ensures { λ b. ⌜ b ≡ fresh ⌝ }
 {
@@ -43,10 +46,11 @@ pub fn fresh() -> Board
         ramp: 0,
         watts: 0,
         vars: 0,
+        recovery: RECOVERY_TOP,
     }
 }
 
-// Its report, before the first sample (spec 8.2): tripped, with all bits, share, watts and vars 0.
+// Its report, before the first sample (spec 8.2): tripped, with all bits, share, watts and vars 0, and a full recovery count.
 pub fn fresh_report() -> Report
     ensures { λ r. ⌜ r ≡ freshReport ⌝ }
 {
@@ -54,6 +58,7 @@ pub fn fresh_report() -> Report
         status: 0,
         bits: 0,
         share: 0,
+        recovery: RECOVERY_TOP,
         watts: 0,
         vars: 0,
     }
@@ -141,19 +146,28 @@ fn share(ramp: u32, length: u32) -> u32
     10000 * ramp / length
 }
 
-// Spec 6.13 to 8.1: the record and the report, from the counters, in service, the region and the ramp count.
-fn settle(s: Settings, r: Reading, c: Counters, on: bool, area: Region, ramp: u32) -> Stepped
+// Spec 6.13 to 8.1: the record and the report, from the counters, in service, the region, the ramp count and the recovery count.
+fn settle(
+    s: Settings,
+    r: Reading,
+    c: Counters,
+    on: bool,
+    area: Region,
+    ramp: u32,
+    recovery: u8,
+) -> Stepped
     requires { ⌜ (Exportable r s) × (ramp ≤ s .ramp) ⌝ }
     ensures { λ t. ⌜ ((e : Equipment) (x : Slice) → readingOf e x ≡ r → regionOf e x ≡ area → Bits e s (c .n) (c .bits)
-        → t ≡ reported e s (settled e s x (c .n) on ramp)) ⌝ }
+        → t ≡ reported e s (settled e s x (c .n) on ramp recovery)) ⌝ }
 {
     let length = s.ramp;
     let status = status_of(on, area, ramp == length);
     let part = share(ramp, length);
-    let p = powers_in(r, s, status, part);
+    let p = powers_in(r, s, status, part, recovery);
     let n = c.n;
     let watts = p.watts as u16;
     let vars = p.vars as i16;
+    let shown = part as u16;
     Stepped {
         board: Board {
             status,
@@ -161,11 +175,13 @@ fn settle(s: Settings, r: Reading, c: Counters, on: bool, area: Region, ramp: u3
             ramp,
             watts,
             vars,
+            recovery,
         },
         answer: Answer::Reported(Report {
             status,
             bits: c.bits,
-            share: part as u16,
+            share: shown,
+            recovery,
             watts,
             vars,
         }),
@@ -184,7 +200,8 @@ fn advance(b: Board, s: Settings, r: Reading) -> Stepped
     let on = in_service_after(was, r.permit, c.bits);
     let area = region(inside, r);
     let ramp = ramp_after(was, on, is_continuous(area), s.ramp, b.ramp);
-    settle(s, r, c, on, area, ramp)
+    let recovery = recovery_after(was, on, ceases(area), b.recovery);
+    settle(s, r, c, on, area, ramp, recovery)
 }
 
 // The step under settings that are accepted and with a sensing table lent: only the sample is checked.

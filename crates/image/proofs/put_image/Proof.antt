@@ -11,15 +11,6 @@ use borrow.Author.Needs.{needs}
 use Rattle.image.proofs.put_image.Statement.{statement}
 use Rattle.image.proofs.put_image.Tie as tie
 
-cast-watts : tie.Need-cast-watts
-cast-watts c = search needs
-
-twos-complement-requires : tie.Need-twos-complement-requires
-twos-complement-requires c κs = search needs
-
-cast-vars : tie.Need-cast-vars
-cast-vars c = search needs
-
 cast-put-bytes : tie.Need-cast-put-bytes
 cast-put-bytes c = search needs
 
@@ -32,11 +23,14 @@ put-counters-requires c κs = search needs
 put-bytes-requires-2 : tie.Need-put-bytes-requires-2
 put-bytes-requires-2 c κs = search needs
 
+put-powers-requires : tie.Need-put-powers-requires
+put-powers-requires c κs = search needs
+
+cast-put-bytes-2 : tie.Need-cast-put-bytes-2
+cast-put-bytes-2 c = search needs
+
 put-bytes-requires-3 : tie.Need-put-bytes-requires-3
 put-bytes-requires-3 c κs = search needs
-
-put-bytes-requires-4 : tie.Need-put-bytes-requires-4
-put-bytes-requires-4 c κs = search needs
 
 same-length : tie.Need-same-length
 same-length c = search needs
@@ -47,20 +41,19 @@ signed c = search needs
 returns : tie.Need-returns
 unfolding image imageFields
 returns c =
-    let vars = c .before .before in
-    let watts = vars .before .before .before .before in
-    let ramp = watts .before .before .before .before in
+    let recovery = c .before .before in
+    let powers = recovery .before .before .before .before .before in
+    let ramp = powers .before .before .before .before .before in
     let counters = ramp .before .before .before .before in
     let status = counters .before .before .before .before in
-    let number = status .before .before .before in
-    let start = number .before .before .before .before .before in
-    let complement = rw (number .twos-complement .ensures, toZ-ofZ (signed start)) at (vars .put-bytes4 .ensures .0) in
+    let start = status .before .before .before .before .before in
+    let powers-written = rw (toZ-ofZ (signed start)) at (powers .put-powers .ensures .0) in
     let all : Wrote _ 0 _ _ (fieldBytes (imageFields (start .args .b)))
     = field-then _ _ (status .put-bytes .ensures .0)
     (fields-and _ _ (counters .put-counters .ensures .0)
     (field-then _ _ (ramp .put-bytes2 .ensures .0)
-    (field-then _ _ (watts .put-bytes3 .ensures .0)
-    (field-then _ _ complement
+    (fields-and _ _ powers-written
+    (field-then _ _ (recovery .put-bytes3 .ensures .0)
     (fields-end (omega arith)))))) in
     all .bytes
 
@@ -68,14 +61,12 @@ pub put-image-spec : {M : Type 1} → statement M
 put-image-spec =
     tie.close
     (tie.spec
-    cast-watts
-    twos-complement-requires
-    cast-vars
     cast-put-bytes
     put-bytes-requires
     put-counters-requires
     put-bytes-requires-2
+    put-powers-requires
+    cast-put-bytes-2
     put-bytes-requires-3
-    put-bytes-requires-4
     same-length
     returns)

@@ -29,11 +29,17 @@ returns c =
     let wrote = c .before .before .put .ensures in
     (rw (steady-front (start .args .report) steady) wrote, omega (arith, wrote .after))
 
+cast-recovery : tie.Need-cast-recovery
+cast-recovery c = search needs
+
 put-head-requires : tie.Need-put-head-requires
 put-head-requires c κs = search needs
 
 put-number-requires : tie.Need-put-number-requires
 put-number-requires c κs = search needs
+
+put-number-requires-2 : tie.Need-put-number-requires-2
+put-number-requires-2 c κs = search needs
 
 same-length-2 : tie.Need-same-length-2
 same-length-2 c = search needs
@@ -41,9 +47,12 @@ same-length-2 c = search needs
 returns-2 : tie.Need-returns-2
 unfolding reportFront
 returns-2 c =
-    let share = c .before .before in
-    let head = share .before .before .before .before in
-    (and-then (head .put-head .ensures .0) (share .put-number .ensures .0), omega (arith, head .put-head .ensures .1, share .put-number .ensures .1))
+    let recovery = c .before .before in
+    let share = recovery .before .before .before .before in
+    let head = share .before .before .before .before in (
+      and-then (head .put-head .ensures .0) (and-then (share .put-number .ensures .0) (recovery .put-number2 .ensures .0)),
+      omega (arith, head .put-head .ensures .1, share .put-number .ensures .1, recovery .put-number2 .ensures .1),
+    )
 
 pub put-front-spec : {M : Type 1} → statement M
 put-front-spec =
@@ -54,7 +63,9 @@ put-front-spec =
     put-requires
     same-length
     returns
+    cast-recovery
     put-head-requires
     put-number-requires
+    put-number-requires-2
     same-length-2
     returns-2)

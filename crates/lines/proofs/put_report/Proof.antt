@@ -8,7 +8,7 @@ use Rattle.rules.specs.Text.{bytes}
 use Rattle.rules.specs.Transcripts.{spacedNumbers}
 use Rattle.buffers.specs.Written.{Wrote}
 use Rattle.buffers.proofs.Writing.{and-then}
-use Rattle.lines.proofs.Whole.{number-then, numbers-end, afterShare, report-pieces}
+use Rattle.lines.proofs.Whole.{number-then, numbers-end, afterFront, report-pieces}
 use borrow.Author.Needs.{needs}
 use Rattle.lines.proofs.put_report.Statement.{statement}
 use Rattle.lines.proofs.put_report.Tie as tie
@@ -42,7 +42,7 @@ returns c =
     let front = watts .before .before .before .before in
     let start = front .before .before .before in
     let negative = rw (toZ-ofZ (signed start)) at (vars .put-signed-number .ensures .0) in
-    let numbers : Wrote _ _ _ _ (spacedNumbers (afterShare (start .args .report)) ++ bytes ")\n")
+    let numbers : Wrote _ _ _ _ (spacedNumbers (afterFront (start .args .report)) ++ bytes ")\n")
     = number-then _ _ _ (watts .put-number .ensures .0)
     (number-then _ _ _ negative
     (numbers-end _ (close .put .ensures))) in

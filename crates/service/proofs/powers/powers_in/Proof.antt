@@ -12,7 +12,7 @@ use mir.Val.{toZ, ofZ}
 use borrow.Author.Tests.{le-leb, lt-leb}
 use Rattle.rules.specs.Tests.{within}
 use Rattle.rules.specs.Curves.{nameplate}
-use Rattle.rules.specs.Service.{exports, varsOf, wattsOf}
+use Rattle.rules.specs.Service.{exports, recoveryLimit, varsOf, wattsOf}
 use Rattle.basics.proofs.Bools.{true-within}
 use Rattle.laws.proofs.Curves.{var-rises, watt-rises, watt-not-negatives}
 use Rattle.laws.proofs.Least.{inTurn, in-turn-low}
@@ -55,9 +55,13 @@ smaller-requires-3 c κs = search needs
 within-nameplate-requires : tie.Need-within-nameplate-requires
 within-nameplate-requires c κs = search needs
 
+within-recovery-requires : tie.Need-within-recovery-requires
+within-recovery-requires c κs = search needs
+
 returns-3 : tie.Need-returns-3
 returns-3 c =
-    let p₃ = c .before in
+    let rated = c .before in
+    let p₃ = rated .before in
     let p₂ = p₃ .before in
     let p₁ = p₂ .before in
     let curve = p₁ .before .volt-watt in
@@ -67,13 +71,13 @@ returns-3 c =
     let pre = tests .before .before .pre in
     let on : exports (a .status) ≡ true = true-within 1 3 (a .status) (tests .before .if1 .left) (tests .if2 .left) in
     let same : toZ w32 (ofZ w32 (vars .result)) ≡ vars .result = kept32 (vars .result) (vars .ensures .1) in
-    let others = a .r .limit ∷ a .share ∷ curve .result ∷ nameplate (vars .result) ∷ [] in
-    let turns : c .within-nameplate .result ≡ inTurn (a .r .available) others
-    = rw (c .within-nameplate .ensures, p₃ .smaller3 .ensures, p₂ .smaller2 .ensures, p₁ .smaller .ensures, same) in
-    let low : c .within-nameplate .result ≤ 10000 = rw turns (le-trans (in-turn-low (a .r .available) others) (pre .available-top)) in (
+    let others = a .r .limit ∷ a .share ∷ curve .result ∷ nameplate (vars .result) ∷ recoveryLimit (a .recovery) ∷ [] in
+    let turns : c .within-recovery .result ≡ inTurn (a .r .available) others
+    = rw (c .within-recovery .ensures, rated .within-nameplate .ensures, p₃ .smaller3 .ensures, p₂ .smaller2 .ensures, p₁ .smaller .ensures, same) in
+    let low : c .within-recovery .result ≤ 10000 = rw turns (le-trans (in-turn-low (a .r .available) others) (pre .available-top)) in (
       (λ e x q. same ∙ vars-on e (a .s) x (a .r) q (a .status) on (vars .result) (vars .ensures .0)),
       (
-        (λ e x q. watts-on e (a .s) x (a .r) q (a .status) on (a .share) (vars .result) (curve .result) _ (vars .ensures .0) (curve .ensures .0) turns),
+        (λ e x q. watts-on e (a .s) x (a .r) q (a .status) on (a .share) (a .recovery) (vars .result) (curve .result) _ (vars .ensures .0) (curve .ensures .0) turns),
         (low, rw same (vars .ensures .1)),
       ),
     )
@@ -90,4 +94,5 @@ powers-in-spec =
     smaller-requires-2
     smaller-requires-3
     within-nameplate-requires
+    within-recovery-requires
     returns-3)

@@ -34,15 +34,22 @@ is-continuous-requires c κs = search needs
 ramp-after-requires : tie.Need-ramp-after-requires
 ramp-after-requires c κs = search needs
 
+ceases-requires : tie.Need-ceases-requires
+ceases-requires c κs = search needs
+
+recovery-after-requires : tie.Need-recovery-after-requires
+recovery-after-requires c κs = search needs
+
 settle-requires : tie.Need-settle-requires
 settle-requires c κs =
-    let continues = c .before in
+    let ramp = c .before .before in
+    let continues = ramp .before in
     let on = continues .before .before in
     let was = on .before in
     let start = was .before .before .before .before in
     let a = start .args in
     let top = ramp-top (was .in-service .result) (on .in-service-after .result) (continues .is-continuous .result) (a .s .ramp) (a .b .ramp) in
-    (start .pre, rw (c .ramp-after .ensures) top)
+    (start .pre, rw (ramp .ramp-after .ensures) top)
 
 nine-counters : (c : tie.Start) → length (c .args .b .counters) ≡ 9
 nine-counters c = search needs
@@ -50,7 +57,9 @@ nine-counters c = search needs
 returns : tie.Need-returns
 returns c =
     λ e x regions q.
-    let ramp = c .before in
+    let recovery = c .before in
+    let ceasing = recovery .before in
+    let ramp = ceasing .before in
     let continues = ramp .before in
     let area = continues .before in
     let on = area .before in
@@ -67,6 +76,8 @@ returns c =
       area = area .region .result;
       continues = continues .is-continuous .result;
       ramp = ramp .ramp-after .result;
+      ceasing = ceasing .ceases .result;
+      recovery = recovery .recovery-after .result;
     } in
     let promised : Promised (a .s) (a .r) (a .b) found
     = record {
@@ -77,6 +88,8 @@ returns c =
       place = area .region .ensures;
       steady = continues .is-continuous .ensures;
       climb = ramp .ramp-after .ensures;
+      cessation = ceasing .ceases .ensures;
+      recovers = recovery .recovery-after .ensures;
     } in
     let region-is = region-found e (a .s) x (a .r) regions q (a .b) (nine-counters start) found promised in
     let bits = bits-found e (a .s) x (a .r) regions q (a .b) (nine-counters start) found promised in
@@ -94,5 +107,7 @@ advance-spec =
     region-requires
     is-continuous-requires
     ramp-after-requires
+    ceases-requires
+    recovery-after-requires
     settle-requires
     returns)

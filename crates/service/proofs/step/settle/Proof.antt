@@ -30,8 +30,8 @@ cast-vars c =
     let p = c .before .before .before .before .powers-in in
     rw (kept32 (p .result .vars) (p .ensures .1 .1 .1)) (fits16 (p .result .vars) (p .ensures .1 .1 .1))
 
-cast-t16 : tie.Need-cast-t16
-cast-t16 c = search needs
+cast-shown : tie.Need-cast-shown
+cast-shown c = search needs
 
 -- one equation for each field that is worked out here
 returns : tie.Need-returns
@@ -53,5 +53,5 @@ settle-spec =
     powers-in-requires
     cast-watts
     cast-vars
-    cast-t16
+    cast-shown
     returns)
