@@ -1,7 +1,8 @@
 //! The comparison program: the job of `board` (docs/SPECIFICATION.md) once more, to be held against the proved one. It was written from the
-//! paper that the board was ordered by (document 01 there), then amended from the change request to it (document 02 there, request 1), and
-//! from nothing else, by a hand that had seen neither the proved code nor its definitions nor its design. No code is shared. Told beforehand
-//! was one reading of request 1, that watts are limited by the count after the step (docs/DECISIONS.md).
+//! paper that the board was ordered by (document 01 there) and from nothing else, by a hand that had seen neither the proved code nor its
+//! definitions nor its design; then amended, by such a hand too, from the change request (document 02 there, request 1), which was told over in
+//! short as well, with one reading that the papers do not state: watts are limited by the count after the step (docs/DECISIONS.md). No code
+//! is shared.
 //! Standard library only, one file:
 //!
 //!     rustc -O --edition 2021 board.rs            the program `board`
