@@ -1,8 +1,10 @@
 //! The comparison program: the job of `board` (docs/SPECIFICATION.md) once more, to be held against the proved one. It was written from the
 //! paper that the board was ordered by (document 01 there) and from nothing else, by a hand that had seen neither the proved code nor its
 //! definitions nor its design; then amended, by such a hand too, from the change request (document 02 there, request 1), which was told over in
-//! short as well, with one reading that the papers do not state: watts are limited by the count after the step (docs/DECISIONS.md). No code
-//! is shared.
+//! short as well, with one reading that the papers do not state: watts are limited by the count
+//! after the step (docs/DECISIONS.md). Request 2 of document 02 was added by a hand that had,
+//! beside this program, only the words of document 01 and of requests 1 and 2 of document 02, and
+//! the interface that the tests need. No code is shared.
 //! Standard library only, one file:
 //!
 //!     rustc -O --edition 2021 board.rs            the program `board`
@@ -114,6 +116,8 @@ pub const PERMISSION: u8 = 6;
 pub const POWER: u8 = 7;
 pub const SAMPLE_FORM: u8 = 8;
 pub const IMAGE_BUFFER: u8 = 9;
+pub const SOURCE_LENGTH: u8 = 10;
+pub const NOT_RECOVERED: u8 = 11;
 
 // ---------------------------------------------------------------------------
 // The sheet
@@ -556,6 +560,53 @@ pub fn save(board: &Board, buffer: &mut [u8]) -> Result<(), u8> {
 }
 
 // ---------------------------------------------------------------------------
+// Images of the old firmware, carried over: spec 9.5
+// ---------------------------------------------------------------------------
+//
+// Told: the source is the image and nothing more; the result stands at the target's front.
+// Decision: both directions check, though only going back meets a recovery byte. A source that
+// is too long is as wrong as one that is too short, and neither direction lets an image through
+// that has the other form already.
+// Decision: a target is too short when the result does not fit, so 46 bytes are asked for going
+// forward and 45 going back, where `save` asks for 46 always.
+// Decision: as with `save`, bytes behind the result keep what they hold.
+// Decision: no byte but the recovery byte is judged. Wild statuses and counts are carried as they
+// are, and a board in momentary or cease gets its 40 like any other.
+
+/// The size of an old image, which lacks the recovery byte.
+pub const OLD_IMAGE_SIZE: usize = 45;
+
+/// Makes an old image a new one by adding a full recovery count.
+pub fn carry_forward(source: &[u8], target: &mut [u8]) -> Result<(), u8> {
+    if source.len() != OLD_IMAGE_SIZE {
+        return Err(SOURCE_LENGTH);
+    }
+    if target.len() < IMAGE_SIZE {
+        return Err(IMAGE_BUFFER);
+    }
+    target[..OLD_IMAGE_SIZE].copy_from_slice(source);
+    target[OLD_IMAGE_SIZE] = RECOVERY_TOP;
+    Ok(())
+}
+
+/// Makes a new image an old one, if all that this loses is a full recovery count.
+/// Decision: a recovery byte above 40 is refused too. A step would read it as 40, but on the way
+/// forward it would not come back as it was.
+pub fn carry_back(source: &[u8], target: &mut [u8]) -> Result<(), u8> {
+    if source.len() != IMAGE_SIZE {
+        return Err(SOURCE_LENGTH);
+    }
+    if source[OLD_IMAGE_SIZE] != RECOVERY_TOP {
+        return Err(NOT_RECOVERED);
+    }
+    if target.len() < OLD_IMAGE_SIZE {
+        return Err(IMAGE_BUFFER);
+    }
+    target[..OLD_IMAGE_SIZE].copy_from_slice(&source[..OLD_IMAGE_SIZE]);
+    Ok(())
+}
+
+// ---------------------------------------------------------------------------
 // The program `board`
 // ---------------------------------------------------------------------------
 
@@ -739,7 +790,19 @@ fn numbers(words: &[&str]) -> Vec<i64> {
     words.iter().map(|word| word.parse().expect("a decimal number")).collect()
 }
 
+/// The bytes of a word of small hex digits, two a byte. Another word ends the program.
+fn bytes(word: &str) -> Vec<u8> {
+    let value = |digit: u8| {
+        let value = b"0123456789abcdef".iter().position(|&small| small == digit);
+        value.expect("a small hex digit") as u8
+    };
+    assert_eq!(word.len() % 2, 0, "two digits a byte");
+    word.as_bytes().chunks_exact(2).map(|pair| 16 * value(pair[0]) + value(pair[1])).collect()
+}
+
 /// Answers one call.
+/// Told: `forward` and `back` name the target's size and the source, whose word is missing when
+/// it is empty; the target is filled as the buffer of `save` is.
 /// Decision: STATUS is the number of the status, as in the record; hex digits are small.
 /// Decision: the recovery count is the fourteenth and last number of a `record` call, as in
 /// the image; in the answer to a `step` call it stands as in a report line.
@@ -793,6 +856,16 @@ fn answer_call(call: &str, board: &mut Board, settings: &mut Settings) -> String
             match save(board, &mut buffer) {
                 Ok(()) => format!("saved {}", hex(&buffer)),
                 Err(number) => format!("refused {} {}", number, hex(&buffer)),
+            }
+        }
+        "forward" | "back" => {
+            assert!(words.len() <= 3, "one size and one source");
+            let carry = if words[0] == "forward" { carry_forward } else { carry_back };
+            let mut target = vec![0xAA; words[1].parse().expect("a size")];
+            let source = words.get(2).map_or(Vec::new(), |word| bytes(word));
+            match carry(&source, &mut target) {
+                Ok(()) => format!("carried {}", hex(&target)),
+                Err(number) => format!("refused {} {}", number, hex(&target)),
             }
         }
         _ => panic!("not a call: {}", call),
@@ -2104,6 +2177,347 @@ mod tests {
         }
     }
 
+    // --- carrying over ---
+
+    type Carry = fn(&[u8], &mut [u8]) -> Result<(), u8>;
+
+    /// Made bytes: other ones for each seed, the same ones in every run.
+    fn made(seed: u64, size: usize) -> Vec<u8> {
+        let mut state = (seed + 1).wrapping_mul(0x9E37_79B9_7F4A_7C15);
+        let next = |_| {
+            state ^= state << 13;
+            state ^= state >> 7;
+            state ^= state << 17;
+            (state >> 32) as u8
+        };
+        (0..size).map(next).collect()
+    }
+
+    /// A made new image with this recovery byte.
+    fn made_image(seed: u64, recovery: u8) -> Vec<u8> {
+        let mut image = made(seed, 46);
+        image[45] = recovery;
+        image
+    }
+
+    /// Carries into targets of this size that differ in what they held before. Each must give
+    /// the expected answer and afterwards hold the expected bytes, if any, at its front and
+    /// what it held before everywhere else.
+    fn carries(carry: Carry, source: &[u8], size: usize, expected: Result<&[u8], u8>) {
+        for before in [vec![0; size], vec![0xAA; size], vec![40; size], made(size as u64, size)] {
+            let mut target = before.clone();
+            let answer = carry(source, &mut target);
+            assert_eq!(answer, expected.map(|_| ()), "{} to {} bytes", source.len(), size);
+            let mut after = before;
+            if let Ok(front) = expected {
+                after[..front.len()].copy_from_slice(front);
+            }
+            assert_eq!(target, after, "{} to {} bytes", source.len(), size);
+        }
+    }
+
+    /// The image carried into a target that it fills.
+    fn carried(carry: Carry, source: &[u8], size: usize) -> Vec<u8> {
+        let mut target = vec![0xAA; size];
+        assert_eq!(carry(source, &mut target), Ok(()));
+        target
+    }
+
+    #[test]
+    fn forward_adds_a_recovery_of_40() {
+        let old: Vec<u8> = (101..=145).collect();
+        let mut new = old.clone();
+        new.push(40);
+        assert_eq!(carried(carry_forward, &old, 46), new);
+        carries(carry_forward, &old, 46, Ok(&new));
+        // The last byte of an old image is one of vars, not a count.
+        for last in 0..=255 {
+            let mut old = old.clone();
+            old[44] = last;
+            let expected: Vec<u8> = (101..145).chain([last, 40]).collect();
+            carries(carry_forward, &old, 46, Ok(&expected));
+        }
+    }
+
+    #[test]
+    fn back_drops_a_recovery_of_40() {
+        let old: Vec<u8> = (101..=145).collect();
+        let new: Vec<u8> = (101..=145).chain([40]).collect();
+        assert_eq!(carried(carry_back, &new, 45), old);
+        carries(carry_back, &new, 45, Ok(&old));
+        carries(carry_back, &[40; 46], 45, Ok(&[40; 45]));
+    }
+
+    #[test]
+    fn every_last_byte() {
+        for (seed, last) in (0..=255).enumerate() {
+            let new = made_image(seed as u64, last);
+            let same = [last; 46];
+            for size in [45, 46, 60] {
+                let expected = if last == 40 { Ok(&new[..45]) } else { Err(11) };
+                carries(carry_back, &new, size, expected);
+                let expected = if last == 40 { Ok(&same[..45]) } else { Err(11) };
+                carries(carry_back, &same, size, expected);
+            }
+            // 40 elsewhere does not help.
+            let mut new = [40; 46];
+            new[45] = last;
+            let expected = if last == 40 { Ok(&[40; 45][..]) } else { Err(11) };
+            carries(carry_back, &new, 45, expected);
+        }
+    }
+
+    #[test]
+    fn each_refusal_of_carrying_alone() {
+        for length in [0, 1, 44, 46, 47, 90, 1000] {
+            for size in [46, 47, 100, 1000] {
+                carries(carry_forward, &vec![40; length], size, Err(10));
+            }
+        }
+        for length in [0, 1, 44, 45, 47, 92, 1000] {
+            for size in [45, 46, 100, 1000] {
+                carries(carry_back, &vec![40; length], size, Err(10));
+            }
+        }
+        for recovery in [0, 1, 39, 41, 168, 255] {
+            for size in [45, 46, 100, 1000] {
+                carries(carry_back, &made_image(1, recovery), size, Err(11));
+            }
+        }
+        for size in [0, 1, 44, 45] {
+            carries(carry_forward, &made(2, 45), size, Err(9));
+        }
+        for size in [0, 1, 43, 44] {
+            carries(carry_back, &made_image(3, 40), size, Err(9));
+        }
+    }
+
+    #[test]
+    fn the_first_of_the_refusals_of_carrying() {
+        // Length (10) before target (9), both ways, where no recovery byte is wrong.
+        for length in [0, 1, 44, 46, 47] {
+            for size in [0, 1, 44, 45] {
+                carries(carry_forward, &vec![40; length], size, Err(10));
+            }
+        }
+        for length in [0, 1, 44, 45, 47, 48] {
+            for size in [0, 1, 44] {
+                carries(carry_back, &vec![40; length], size, Err(10));
+            }
+        }
+        // Recovery (11) before target (9).
+        for recovery in [0, 39, 41, 255] {
+            for size in [0, 1, 43, 44] {
+                carries(carry_back, &made_image(4, recovery), size, Err(11));
+                carries(carry_back, &[recovery; 46], size, Err(11));
+            }
+        }
+        // Length (10) before recovery (11), whichever byte of the source is taken for it; and
+        // before recovery and target together.
+        for length in [0, 1, 44, 45, 47, 48] {
+            for size in [0, 1, 44, 45, 46, 60] {
+                carries(carry_back, &vec![39; length], size, Err(10));
+                for wrong in 0..length {
+                    let mut source = vec![40; length];
+                    source[wrong] = 41;
+                    carries(carry_back, &source, size, Err(10));
+                }
+            }
+        }
+    }
+
+    #[test]
+    fn every_source_and_target_length() {
+        let mut answers = [[0; 12]; 3]; // by source and number, 0 for none
+        for length in 0..=60 {
+            for size in 0..=60 {
+                let full = vec![40; length];
+                let short = vec![39; length];
+                let made = made(5, length);
+                for source in [&full, &short, &made] {
+                    let mut new = source.clone();
+                    new.push(40);
+                    let expected = match (length, size) {
+                        (45, 46..) => Ok(&new[..]),
+                        (45, _) => Err(9),
+                        _ => Err(10),
+                    };
+                    carries(carry_forward, source, size, expected);
+                }
+                for (i, source) in [&full, &short, &made].into_iter().enumerate() {
+                    let expected = match (length, i, size) {
+                        (46, 0, 45..) => Ok(&source[..45]),
+                        (46, 0, _) => Err(9),
+                        (46, _, _) => Err(11),
+                        _ => Err(10),
+                    };
+                    carries(carry_back, source, size, expected);
+                    answers[i][usize::from(expected.err().unwrap_or(0))] += 1;
+                }
+            }
+        }
+        assert_ne!(made(5, 46)[45], 40);
+        assert_eq!(answers[0], [16, 0, 0, 0, 0, 0, 0, 0, 0, 45, 3660, 0]);
+        assert_eq!(answers[1], [0, 0, 0, 0, 0, 0, 0, 0, 0, 0, 3660, 61]);
+        assert_eq!(answers[2], answers[1]);
+    }
+
+    #[test]
+    fn bytes_behind_the_result() {
+        for size in (46..=100).chain([1000, 65536]) {
+            let old = made(size as u64 + 1, 45);
+            let new = [&old[..], &[40]].concat();
+            let behind = made(size as u64 + 2, size);
+            let mut target = behind.clone();
+            assert_eq!(carry_forward(&old, &mut target), Ok(()));
+            assert_eq!((&target[..46], &target[46..]), (&new[..], &behind[46..]));
+            let mut target = behind.clone();
+            assert_eq!(carry_back(&new, &mut target), Ok(()));
+            assert_eq!((&target[..45], &target[45..]), (&old[..], &behind[45..]));
+            // The byte right behind an old image may hold anything.
+            for byte in 0..=255 {
+                let mut target = [byte; 47];
+                assert_eq!(carry_back(&new, &mut target), Ok(()));
+                assert_eq!(target[45..], [byte; 2]);
+            }
+        }
+    }
+
+    #[test]
+    fn every_value_of_every_byte() {
+        for (place, value) in (0..45).flat_map(|i| (0..=255).map(move |value| (i, value))) {
+            for mut old in [vec![0; 45], vec![255; 45], made(6, 45)] {
+                old[place] = value;
+                let new = [&old[..], &[40]].concat();
+                assert_eq!(carried(carry_forward, &old, 46), new);
+                assert_eq!(carried(carry_back, &new, 45), old);
+            }
+        }
+    }
+
+    #[test]
+    fn old_to_new_to_old() {
+        for seed in 0..20000 {
+            let old = made(seed, 45);
+            let new = carried(carry_forward, &old, 46);
+            assert_eq!((&new[..45], new[45]), (&old[..], 40));
+            assert_eq!(carried(carry_back, &new, 45), old);
+        }
+    }
+
+    #[test]
+    fn new_to_old_to_new() {
+        for seed in 0..20000 {
+            let new = made_image(seed, 40);
+            let old = carried(carry_back, &new, 45);
+            assert_eq!(old, new[..45]);
+            assert_eq!(carried(carry_forward, &old, 46), new);
+            // Over what stood in the same two places before.
+            let (mut there, mut back) = (made(seed + 1, 45), made(seed + 2, 46));
+            assert_eq!(carry_back(&new, &mut there), Ok(()));
+            assert_eq!(carry_forward(&there, &mut back), Ok(()));
+            assert_eq!(back, new);
+        }
+        // Made last bytes: there and back, or not at all.
+        let mut allowed = 0;
+        for seed in 0..20000 {
+            let new = made(seed, 46);
+            let mut old = [0xAA; 45];
+            if carry_back(&new, &mut old).is_ok() {
+                assert_eq!(carried(carry_forward, &old, 46), new);
+                allowed += 1;
+            } else {
+                assert_eq!((carry_back(&new, &mut old), old), (Err(11), [0xAA; 45]));
+                assert_ne!(new[45], 40);
+            }
+        }
+        assert!((40..120).contains(&allowed), "{} of 20000", allowed);
+    }
+
+    /// The record's image carried back and, where that is allowed, forward again. Gives the
+    /// refusal's number, or 0.
+    fn saved_and_carried(board: &Board) -> u8 {
+        let mut new = [0xAA; 46];
+        save(board, &mut new).unwrap();
+        if board.recovery != 40 {
+            carries(carry_back, &new, 45, Err(11));
+            return 11;
+        }
+        carries(carry_back, &new, 45, Ok(&new[..45]));
+        carries(carry_forward, &new[..45], 46, Ok(&new));
+        let old = carried(carry_back, &new, 45);
+        assert_eq!(carried(carry_forward, &old, 46), new);
+        0
+    }
+
+    #[test]
+    fn images_of_records_carried() {
+        assert_eq!(saved_and_carried(&fresh()), 0);
+        let mut new = [0xAA; 46];
+        save(&fresh(), &mut new).unwrap();
+        assert_eq!(carried(carry_back, &new, 45), [0; 45]);
+        assert_eq!(carried(carry_forward, &[0; 45], 46), new);
+        // Wild ones.
+        for status in 0..=255 {
+            for recovery in 0..=255 {
+                let board = Board {
+                    status, counters: [u32::MAX; 9], ramp: u32::MAX, watts: u16::MAX,
+                    vars: i16::MIN, recovery,
+                };
+                assert_eq!(saved_and_carried(&board), if recovery == 40 { 0 } else { 11 });
+            }
+        }
+        // The fields keep their places.
+        let board = Board {
+            status: 3, counters: [1, 2, 3, 4, 5, 6, 7, 8, 9], ramp: 0x0A0B0C0D, watts: 0x0E0F,
+            vars: -2, recovery: 40,
+        };
+        save(&board, &mut new).unwrap();
+        let expected = "030000000100000002000000030000000400000005000000060000000700000008\
+                        000000090a0b0c0d0e0ffffe";
+        assert_eq!(hex(&carried(carry_back, &new, 45)), expected);
+    }
+
+    #[test]
+    fn images_of_a_history_carried() {
+        // A cessation, forty steps of recovery, a trip in the middle of the next one.
+        let mut board = in_service(100);
+        assert_eq!(saved_and_carried(&board), 0);
+        for stop in [LOW_DIP, HIGH_SWELL, TOO_HIGH] {
+            recovering(&mut board, &stop);
+            assert_eq!(saved_and_carried(&board), 11);
+            for k in 1..=45 {
+                recovering(&mut board, &NORMAL);
+                assert_eq!(saved_and_carried(&board), if k < 40 { 11 } else { 0 });
+            }
+        }
+        recovering(&mut board, &LOW_DIP);
+        recovering(&mut board, &NORMAL);
+        assert_eq!(saved_and_carried(&board), 11);
+        recovering(&mut board, &NO_PERMISSION);
+        assert_eq!(saved_and_carried(&board), 0);
+        // Made histories, mostly of normal samples.
+        let others = [LOW_HERTZ, LOW_DIP, HIGH_SWELL, TOO_HIGH, NO_PERMISSION];
+        let mut answers = [[0, 0]; 6]; // by status: carried, refused
+        for seed in 0..50 {
+            let mut board = fresh();
+            for choice in made(seed, 400) {
+                let sample = others.get(usize::from(choice)).copied().unwrap_or(NORMAL);
+                let (status, ..) = recovering(&mut board, &sample);
+                let refused = saved_and_carried(&board) != 0;
+                answers[usize::from(status)][usize::from(refused)] += 1;
+            }
+        }
+        let [tripped, entering, continuous, mandatory, momentary, cease] = answers;
+        assert!(tripped[0] > 0 && tripped[1] == 0);
+        for both in [entering, continuous, mandatory] {
+            assert!(both[0] > 0 && both[1] > 0);
+        }
+        for stopped in [momentary, cease] {
+            assert!(stopped[0] == 0 && stopped[1] > 0);
+        }
+    }
+
     // --- calls ---
 
     #[test]
@@ -2128,5 +2542,95 @@ mod tests {
         let mut output = Vec::new();
         run_calls(input.as_bytes(), &mut output).unwrap();
         assert_eq!(String::from_utf8(output).unwrap(), expected);
+    }
+
+    fn answers(calls: &str) -> String {
+        let mut output = Vec::new();
+        run_calls(calls.as_bytes(), &mut output).unwrap();
+        String::from_utf8(output).unwrap()
+    }
+
+    #[test]
+    fn calls_that_carry() {
+        let old = "f10102030400000001000000020000000300000004000000050000000600000007\
+                   ffffffff0a0b0c0dfedcfffe";
+        let aa = |size: usize| "aa".repeat(size);
+        let rows = [
+            (format!("forward 46 {old}"), format!("carried {old}28")),
+            (format!("forward 48 {old}"), format!("carried {old}28aaaa")),
+            (format!("forward 45 {old}"), format!("refused 9 {}", aa(45))),
+            (format!("forward 0 {old}"), "refused 9 ".to_string()),
+            (format!("forward 46 {old}28"), format!("refused 10 {}", aa(46))),
+            (format!("forward 46 {}", &old[2..]), format!("refused 10 {}", aa(46))),
+            (format!("forward 45 {old}28"), format!("refused 10 {}", aa(45))),
+            ("forward 46".to_string(), format!("refused 10 {}", aa(46))),
+            ("forward 1".to_string(), "refused 10 aa".to_string()),
+            ("forward 0".to_string(), "refused 10 ".to_string()),
+            (format!("back 45 {old}28"), format!("carried {old}")),
+            (format!("back 48 {old}28"), format!("carried {old}aaaaaa")),
+            (format!("back 44 {old}28"), format!("refused 9 {}", aa(44))),
+            (format!("back 0 {old}28"), "refused 9 ".to_string()),
+            (format!("back 45 {old}27"), format!("refused 11 {}", aa(45))),
+            (format!("back 46 {old}29"), format!("refused 11 {}", aa(46))),
+            (format!("back 44 {old}ff"), format!("refused 11 {}", aa(44))),
+            (format!("back 0 {old}00"), "refused 11 ".to_string()),
+            (format!("back 45 {old}"), format!("refused 10 {}", aa(45))),
+            (format!("back 44 {old}2828"), format!("refused 10 {}", aa(44))),
+            (format!("back 46 {old}0000"), format!("refused 10 {}", aa(46))),
+            ("back 46".to_string(), format!("refused 10 {}", aa(46))),
+            ("back 1".to_string(), "refused 10 aa".to_string()),
+            ("back 0".to_string(), "refused 10 ".to_string()),
+        ];
+        for (call, answer) in &rows {
+            assert_eq!(answers(&format!("{call}\n")), format!("{answer}\n"), "{}", call);
+        }
+        // All in a row, the record as it was before and after.
+        let record = "record 3 1 2 3 4 5 6 7 8 9 10 11 -12 13\nsave 46\n";
+        let mut calls = record.to_string();
+        let mut expected = answers(record);
+        for (call, answer) in &rows {
+            calls += &format!("{call}\nsave 46\n");
+            expected += &format!("{answer}\n{}\n", answers(record).lines().nth(1).unwrap());
+        }
+        assert_eq!(answers(&calls), expected);
+    }
+
+    #[test]
+    fn calls_that_carry_sources_of_every_length() {
+        for length in 0..=60 {
+            for recovery in [39, 40] {
+                let mut source = made(length as u64, length);
+                if let Some(last) = source.last_mut() {
+                    *last = recovery;
+                }
+                let word = hex(&source);
+                for size in 0..=60 {
+                    let forward = match (length, size) {
+                        (45, 46..) => format!("carried {}28{}", word, "aa".repeat(size - 46)),
+                        (45, _) => format!("refused 9 {}", "aa".repeat(size)),
+                        _ => format!("refused 10 {}", "aa".repeat(size)),
+                    };
+                    let back = match (length, recovery, size) {
+                        (46, 40, 45..) => {
+                            format!("carried {}{}", &word[..90], "aa".repeat(size - 45))
+                        }
+                        (46, 40, _) => format!("refused 9 {}", "aa".repeat(size)),
+                        (46, _, _) => format!("refused 11 {}", "aa".repeat(size)),
+                        _ => format!("refused 10 {}", "aa".repeat(size)),
+                    };
+                    let calls = format!("forward {size} {word}\nback {size} {word}\n");
+                    assert_eq!(answers(&calls), format!("{forward}\n{back}\n"));
+                }
+            }
+        }
+    }
+
+    #[test]
+    fn calls_that_carry_every_byte() {
+        for begin in 0..=255u8 {
+            let old: String = (0..45).map(|i| format!("{:02x}", begin.wrapping_add(i))).collect();
+            let calls = format!("forward 46 {old}\nback 45 {old}28\n");
+            assert_eq!(answers(&calls), format!("carried {old}28\ncarried {old}\n"));
+        }
     }
 }

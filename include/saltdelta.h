@@ -3,10 +3,10 @@
  *     rt staticlib saltdelta              makes target/staticlib/libsaltdelta.a
  *     cc program.c -Iinclude target/staticlib/libsaltdelta.a
  *
- * Six functions: a fresh board record and its report, reading a sheet of settings, one step of 10 ms, saving a record's image, replaying
- * recorded samples. The library keeps nothing between calls and allocates nothing; it needs memcpy and some 10 kB of stack. Any number may
- * stand in what is lent, for there is an answer to each; the contracts in crates/saltdelta/src/lib.rt say which, and that is proved. What the
- * board does is docs/SPECIFICATION.md.
+ * Eight functions: a fresh board record and its report, reading a sheet of settings, one step of 10 ms, saving a record's image, carrying
+ * an image over from the old firmware and back to it, replaying recorded samples. The library keeps nothing between calls and allocates
+ * nothing; it needs memcpy and some 10 kB of stack. Any number may stand in what is lent, for there is an answer to each; the contracts in
+ * crates/saltdelta/src/lib.rt say which, and that is proved. What the board does is docs/SPECIFICATION.md.
  *
  * UNITS (spec 1.2). Voltage: 10000 is nominal. Frequency: mHz. Power: 10000 is the rating. Time: steps of 10 ms.
  *
@@ -20,18 +20,21 @@
  *     6  permission not 0 or 1
  *     7  available power or operator's limit above 10000
  *     8  sample not of seven numbers
- *     9  image buffer under 46 bytes
+ *     9  image buffer under 46 bytes; target of an image that is carried over under 46 bytes (forward) or 45 (back)
+ *    10  image to be carried over of another length than 45 (forward) or 46 (back)
+ *    11  image to be carried back with a recovery count other than 40
  *
  * A sheet's lines are checked in order, each for 1, 2, 3; a step for 2 and 3 in sheet order, then for 8, 4, 5, 6, 7; a replay for 2 and 3 in
- * sheet order, then for 9. A refused call writes nothing at all: every byte that was lent to it stays as it was, of a struct its bytes of
- * padding too. A call that is not refused writes all fields of what it writes, and its bytes of padding may change.
+ * sheet order, then for 9; carrying forward for 10, 9; carrying back for 10, 11, 9. A refused call writes nothing at all: every byte that
+ * was lent to it stays as it was, of a struct its bytes of padding too. A call that is not refused writes all fields of what it writes, and
+ * its bytes of padding may change.
  *
  * WHAT THE CALLER OWES, as for references in Rust; nothing else is asked, and nothing tests it:
  *
  *   - every pointer points to memory of the size that its type and its count say, aligned for its type; none is NULL, not with a
  *     count of 0 either, and no memory is larger than PTRDIFF_MAX bytes;
  *   - the memory is initialised, also where the call writes: settings of saltdelta_read_sheet, the report of saltdelta_step and
- *     of saltdelta_replay;
+ *     of saltdelta_replay, every buffer and target;
  *   - while the call runs, nobody else writes any of it or reads what the call writes (the pointers that are not to const), and what
  *     the call writes overlaps nothing else that is lent to the same call;
  *   - the structs are those below, and the compiler lays them out as the x86-64 System V ABI says.
@@ -57,7 +60,9 @@ enum {
     SALTDELTA_PERMISSION = 6,
     SALTDELTA_POWER = 7,
     SALTDELTA_SAMPLE = 8,
-    SALTDELTA_BUFFER = 9
+    SALTDELTA_BUFFER = 9,
+    SALTDELTA_SOURCE_LENGTH = 10, /* of an image to be carried over */
+    SALTDELTA_ADDED_BYTES = 11    /* the recovery count of an image to be carried back is not 40 */
 };
 
 /* The status of a board. Any other number in a lent record is read as tripped. */
@@ -85,6 +90,9 @@ enum {
 
 /* The image of a record, in bytes (spec 9.1). */
 #define SALTDELTA_IMAGE 46
+
+/* An image of the old firmware, from before the recovery count: all but the last byte (spec 9.5). */
+#define SALTDELTA_OLD_IMAGE 45
 
 /* A full recovery count: power is back (spec 6.15). */
 #define SALTDELTA_RECOVERY_TOP 40
@@ -173,6 +181,15 @@ uint32_t saltdelta_step(saltdelta_board *board, const saltdelta_settings *settin
 /* Saves the record's image in the first 46 of `length` lent bytes, high byte first: status (1 byte), the nine counters (4 each), ramp
  * count (4), watts (2), vars (2, two's complement), recovery (1), each as it is. The bytes after it are untouched. */
 uint32_t saltdelta_save(const saltdelta_board *board, uint8_t *buffer, size_t length);
+
+/* Carries an image of the old firmware over to this one: `source`, 45 bytes, and a recovery count of 40 behind them, in the first 46 of
+ * `target_length` lent bytes. The bytes after them are untouched. Source and target do not overlap. */
+uint32_t saltdelta_carry_forward(const uint8_t *source, size_t source_length, uint8_t *target, size_t target_length);
+
+/* Carries an image of this firmware back to the old one: the first 45 bytes of `source`, 46 bytes of which the last, the recovery count, is
+ * 40, in the first 45 of `target_length` lent bytes. The bytes after them are untouched. Source and target do not overlap. The image of a fresh
+ * board, and of one that an accepted step has left tripped, can always be carried back. */
+uint32_t saltdelta_carry_back(const uint8_t *source, size_t source_length, uint8_t *target, size_t target_length);
 
 /* Replays recorded samples: `count` numbers, seven a sample, step a fresh record one sample after another under the same settings. Writes
  * the last report, or the fresh board's if no sample is accepted, and saves the record's image in the first 46 of `length` lent bytes. A sample

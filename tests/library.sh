@@ -1,8 +1,9 @@
 #!/usr/bin/env bash
 # The library: libsaltdelta.a is made, proofs checked, and called from C and from Rust; both are held against the comparison program.
-# A pass is a case: a run of calls that all agree with it (a board's life, or a hundred calls), a sheet that C reads as the specification says, a
-# replay that is what its steps one by one are, or a refused call of C's that writes no byte of what is lent to it, padding included. Rust's
-# calls are held to that too. Each way in which the recovery count moves is a case as well: reached a hundred times, from C and from Rust.
+# A pass is a case: a run of calls that all agree with it (a board's life, or up to some seven hundred calls), a sheet that C reads as the specification says, a
+# replay that is what its steps one by one are, an image that is what it was after it was carried over and back, or a refused call of C's that
+# writes no byte of what is lent to it, padding included. Rust's calls are held to that too. Each way in which the recovery count moves, and in which an
+# image is carried over or refused, is a case as well: reached a hundred times, from C and from Rust.
 set -u
 cd "$(dirname "$0")/.." || exit 2
 out=target/library
@@ -14,6 +15,9 @@ rustc -O --edition 2021 comparison/board.rs -o "$out/comparison" || stop "the co
 rustc -O --edition 2021 tests/library/check.rs -L target/staticlib -o "$out/check-rust" || stop "tests/library/check.rs does not compile"
 "${CC:-cc}" -std=c99 -O2 -Wall -Wextra -Iinclude tests/library/check.c target/staticlib/libsaltdelta.a -o "$out/check-c" ||
     stop "tests/library/check.c does not compile"
+
+"${CC:-cc}" -std=c99 -O2 -Wall -Wextra -Iinclude examples/carry.c target/staticlib/libsaltdelta.a -o "$out/carry" ||
+    stop "examples/carry.c does not compile"
 
 passed=0
 failed=0
@@ -29,7 +33,7 @@ add() {
 }
 
 "$out/check-c" "$out/calls" "$out/answers" > "$out/c-own.log" || echo "check-c ends with $?"
-add "$out/c-own.log" "C, sheets, refused calls and recoveries"
+add "$out/c-own.log" "C, sheets, refused calls, recoveries and images carried over"
 "$out/comparison" calls < "$out/calls" > "$out/expected"
 # a case is the calls from one `fresh` to the next
 paste -d '\t' "$out/calls" "$out/expected" "$out/answers" | awk -F '\t' '
@@ -40,8 +44,28 @@ paste -d '\t' "$out/calls" "$out/expected" "$out/answers" | awk -F '\t' '
 add "$out/c-calls.log" "C, calls"
 "$out/check-rust" > "$out/rust.log" || echo "check-rust ends with $?"
 add "$out/rust.log" "Rust, calls"
+# carries STATUS SAID FROM WAY TO: examples/carry.c ends with that status and those words, and has made the bytes of TO from those of FROM.
+carries() {
+    local said status
+    said=$("$out/carry" "$4" < "$3" 2>&1 > "$out/carried")
+    status=$?
+    if [ "$status" = "$1" ] && [ "$said" = "$2" ] && cmp -s "$out/carried" "$5"; then
+        passed=$((passed + 1))
+    else
+        failed=$((failed + 1))
+        echo "examples/carry.c: $4 of $3: exit status $status, said '$said'"
+    fi
+}
+carries 0 "" examples/old.image forward examples/new.image
+carries 0 "" examples/new.image back examples/old.image
+carries 1 "refused 11" examples/recovering.image back /dev/null
+carries 1 "refused 10" examples/old.image back /dev/null
+carries 1 "refused 10" examples/new.image forward /dev/null
+carries 1 "refused 10" examples/carry.c back /dev/null
+carries 1 "refused 10" /dev/null forward /dev/null
+carries 2 "carry forward | carry back" examples/old.image over /dev/null
 calls=$(sed -n 's/^calls: \([0-9]*\),.*/\1/p' "$out/c-calls.log" "$out/rust.log" | awk '{ n += $1 } END { print n + 0 }')
-if [ "$calls" -ge 300000 ]; then passed=$((passed + 1)); else failed=$((failed + 1)); fi
-echo "calls in all: $calls, at least 300000 asked"
+if [ "$calls" -ge 450000 ]; then passed=$((passed + 1)); else failed=$((failed + 1)); fi
+echo "calls in all: $calls, at least 450000 asked"
 echo "$passed passed, $failed failed"
 [ "$failed" -eq 0 ]

@@ -1,8 +1,8 @@
 /* The library from C. It makes calls from a fixed seed and writes them to one file and what the library answers to another, both in the
  * form of the comparison program's mode `calls`; tests/library.sh holds the answers against that program's. What that mode does not have
  * is checked here: the sheet of spec 3.3 and the refused lines of spec 11.1, that a replay is what its steps one by one are, that a
- * refused call writes no byte of what is lent to it, bytes of padding among them, and that the steps reach each way in which the recovery
- * count moves. It prints 'N passed, M failed' for these. */
+ * refused call writes no byte of what is lent to it, bytes of padding among them, that an image carried over and back is what it was, and
+ * that the calls reach each way in which the recovery count moves and an image is carried or refused. It prints 'N passed, M failed' for these. */
 #include <inttypes.h>
 #include <stdio.h>
 #include <string.h>
@@ -33,13 +33,20 @@ static int one_in(uint32_t n) {
     return within(1, n) == 1;
 }
 
-/* ---- what is reached of the recovery */
+/* ---- what is reached of the recovery, and of carrying images over */
 
-enum { BY_MOMENTARY, BY_CEASE, UP_ENTERING, UP_CONTINUOUS, UP_MANDATORY, HELD, BY_TRIP, AT_RETURN, LIMITS, ABOVE, UNREAD, WAYS };
+enum {
+    BY_MOMENTARY, BY_CEASE, UP_ENTERING, UP_CONTINUOUS, UP_MANDATORY, HELD, BY_TRIP, AT_RETURN, LIMITS, ABOVE, UNREAD,
+    FORWARD, FORWARD_10, FORWARD_10_9, FORWARD_9, BACK, BACK_10, BACK_10_11, BACK_10_9, BACK_11, BACK_11_9, BACK_9, OLD_NEW_OLD, NEW_OLD_NEW,
+    WAYS
+};
 static const char *const ways[WAYS] = {
     "recovery to 0 by momentary", "recovery to 0 by cease", "recovery up in entering", "recovery up in continuous",
     "recovery up in mandatory", "recovery held at 40", "recovery to 40 by a trip", "recovery 40 at a return",
-    "recovery limits the watts", "recovery above 40 read as 40", "recovery of a tripped record not read"};
+    "recovery limits the watts", "recovery above 40 read as 40", "recovery of a tripped record not read",
+    "carried forward", "forward refused with 10", "forward refused with 10, short target too", "forward refused with 9",
+    "carried back", "back refused with 10", "back refused with 10, another recovery too", "back refused with 10, short target too",
+    "back refused with 11", "back refused with 11, short target too", "back refused with 9", "old to new to old", "new to old to new"};
 static unsigned reached[WAYS];
 
 /* Counts the ways that a step shows: the status and the recovery lent to it, and its report. */
@@ -68,6 +75,12 @@ static void put_bytes(const uint8_t *bytes, size_t length) {
     fputc('\n', answers);
 }
 
+/* A list of calls begins, with a fresh board. */
+static void anew(void) {
+    fputs("fresh\n", calls);
+    fputs("ok\n", answers);
+}
+
 static void give_record(const saltdelta_board *b) {
     fprintf(calls, "record %u", b->status);
     for (int i = 0; i < 9; i++)
@@ -94,7 +107,7 @@ static void give_settings(const saltdelta_settings *s) {
 static uint32_t step(saltdelta_board *b, const saltdelta_settings *s, const uint32_t *sample, size_t count, saltdelta_report *last) {
     const uint8_t status = b->status, recovery = b->recovery;
     saltdelta_report r = {77, 77, 77, 77, 77, -77};
-    uint8_t image[SALTDELTA_IMAGE];
+    uint8_t image[SALTDELTA_IMAGE] = {0};
     uint32_t number = saltdelta_step(b, s, sample, count, &r);
     fputs("step", calls);
     for (size_t i = 0; i < count; i++)
@@ -407,8 +420,7 @@ static void recoveries(void) {
     for (int i = 0; i < 30; i++) {
         saltdelta_board b = saltdelta_fresh();
         saltdelta_settings s = settings_read();
-        fputs("fresh\n", calls);
-        fputs("ok\n", answers);
+        anew();
         give_settings(&s);
         for (int k = 0; k < 12; k++) {
             steps(&b, &s, 0, within(1, 60));
@@ -420,8 +432,7 @@ static void recoveries(void) {
         saltdelta_settings s = settings_read();
         for (int k = 0; k < 9; k++)
             b.counters[k] = within(0, 14);
-        fputs("fresh\n", calls);
-        fputs("ok\n", answers);
+        anew();
         give_settings(&s);
         give_record(&b);
         steps(&b, &s, one_in(2), 1);
@@ -444,8 +455,7 @@ static void replay(size_t count) {
     saltdelta_board b = saltdelta_fresh();
     saltdelta_report last = saltdelta_fresh_report(), report = {77, 77, 77, 77, 77, -77};
     saltdelta_replayed found;
-    fputs("fresh\n", calls);
-    fputs("ok\n", answers);
+    anew();
     give_settings(&s);
     for (size_t i = 0; i < count; i += 7) {
         uint32_t sample[9];
@@ -463,11 +473,138 @@ static void replay(size_t count) {
            "a replay and its steps");
 }
 
+/* ---- images carried over */
+
+enum { LONGEST_CARRIED = 60, LONG = 65536, BEHIND = 4 };
+
+/* Counts the ways that a call of a direction shows: its number, and what else is wrong with it. */
+static void carried(int forward, uint32_t number, const uint8_t *source, size_t source_length, size_t room) {
+    const int brief = room < (forward ? SALTDELTA_IMAGE : SALTDELTA_OLD_IMAGE);
+    const int not_full = source_length > SALTDELTA_OLD_IMAGE && source[SALTDELTA_OLD_IMAGE] != RECOVERY_TOP;
+    if (forward) {
+        reached[FORWARD] += number == SALTDELTA_ACCEPTED;
+        reached[FORWARD_10] += number == SALTDELTA_SOURCE_LENGTH;
+        reached[FORWARD_10_9] += number == SALTDELTA_SOURCE_LENGTH && brief;
+        reached[FORWARD_9] += number == SALTDELTA_BUFFER;
+    } else {
+        reached[BACK] += number == SALTDELTA_ACCEPTED;
+        reached[BACK_10] += number == SALTDELTA_SOURCE_LENGTH;
+        reached[BACK_10_11] += number == SALTDELTA_SOURCE_LENGTH && not_full;
+        reached[BACK_10_9] += number == SALTDELTA_SOURCE_LENGTH && brief;
+        reached[BACK_11] += number == SALTDELTA_ADDED_BYTES;
+        reached[BACK_11_9] += number == SALTDELTA_ADDED_BYTES && brief;
+        reached[BACK_9] += number == SALTDELTA_BUFFER;
+    }
+}
+
+/* Carries a source into a target of `room` bytes of 0xAA. The source stays, and so do the bytes behind the target. */
+static uint32_t carry(int forward, const uint8_t *source, size_t source_length, uint8_t *target, size_t room) {
+    static uint8_t before[LONG + LONGEST_CARRIED];
+    uint32_t number;
+    int behind = 1;
+    memcpy(before, source, source_length);
+    memset(target, 0xAA, room + BEHIND);
+    number = (forward ? saltdelta_carry_forward : saltdelta_carry_back)(source, source_length, target, room);
+    fprintf(calls, "%s %zu ", forward ? "forward" : "back", room);
+    for (size_t i = 0; i < source_length; i++)
+        fprintf(calls, "%02x", source[i]);
+    fputc('\n', calls);
+    if (number == SALTDELTA_ACCEPTED)
+        fputs("carried ", answers);
+    else
+        fprintf(answers, "refused %" PRIu32 " ", number);
+    put_bytes(target, room);
+    carried(forward, number, source, source_length, room);
+    for (size_t i = room; i < room + BEHIND; i++)
+        behind &= target[i] == 0xAA;
+    if (!behind || memcmp(before, source, source_length) != 0)
+        expect(0, "carrying an image touches its source, or bytes that are not lent");
+    return number;
+}
+
+static void any_bytes(uint8_t *bytes, size_t length) {
+    for (size_t i = 0; i < length; i++)
+        bytes[i] = (uint8_t)next();
+}
+
+/* Any byte but RECOVERY_TOP: past 255 it goes on at 0. */
+static uint8_t any_but_full(void) {
+    return (uint8_t)within(RECOVERY_TOP + 1, RECOVERY_TOP + 255);
+}
+
+/* Sources of 0 to 60 bytes into targets of 0 to 60, the byte after the old image 40 and another; then every value of that byte in an
+ * image, into targets of 0 to 60. */
+static void carries(void) {
+    uint8_t source[LONGEST_CARRIED] = {0}, target[LONGEST_CARRIED + BEHIND];
+    for (size_t length = 0; length <= LONGEST_CARRIED; length++) {
+        anew();
+        for (size_t room = 0; room <= LONGEST_CARRIED; room++)
+            for (int k = 0; k < 6; k++) {
+                any_bytes(source, length);
+                if (length > SALTDELTA_OLD_IMAGE)
+                    source[SALTDELTA_OLD_IMAGE] = k % 2 ? RECOVERY_TOP : any_but_full();
+                carry(1, source, length, target, room);
+                carry(0, source, length, target, room);
+            }
+    }
+    for (int last = 0; last < 256; last++) {
+        anew();
+        for (size_t room = 0; room <= LONGEST_CARRIED; room++) {
+            any_bytes(source, SALTDELTA_IMAGE);
+            source[SALTDELTA_OLD_IMAGE] = (uint8_t)last;
+            carry(0, source, SALTDELTA_IMAGE, target, room);
+        }
+    }
+}
+
+/* Lengths whose low 8 or 16 bits are those of an image: a length is not cut on its way. */
+static void long_carries(void) {
+    static uint8_t source[LONG + LONGEST_CARRIED], target[LONG + 1 + BEHIND];
+    any_bytes(source, sizeof source);
+    source[SALTDELTA_OLD_IMAGE] = RECOVERY_TOP;
+    anew();
+    for (size_t more = 256; more <= LONG; more *= 256)
+        for (size_t length = SALTDELTA_OLD_IMAGE; length <= SALTDELTA_IMAGE; length++)
+            for (int forward = 0; forward < 2; forward++) {
+                carry(forward, source, length + more, target, LONGEST_CARRIED);
+                carry(forward, source, length, target, more);
+                carry(forward, source, length, target, more + 1);
+            }
+}
+
+/* Old images, carried forward and back; and the images of records, carried back and, where that is allowed, forward again. */
+static void round_trips(void) {
+    for (int i = 0; i < 1000; i++) {
+        uint8_t image[SALTDELTA_IMAGE] = {0}, there[LONGEST_CARRIED + BEHIND], again[LONGEST_CARRIED + BEHIND];
+        const saltdelta_board b = any_record();
+        uint32_t number;
+        int same;
+        anew();
+        any_bytes(image, SALTDELTA_OLD_IMAGE);
+        carry(1, image, SALTDELTA_OLD_IMAGE, there, within(SALTDELTA_IMAGE, LONGEST_CARRIED));
+        number = carry(0, there, SALTDELTA_IMAGE, again, within(SALTDELTA_OLD_IMAGE, LONGEST_CARRIED));
+        same = number == SALTDELTA_ACCEPTED && memcmp(again, image, SALTDELTA_OLD_IMAGE) == 0;
+        expect(same, "an old image carried forward and back");
+        reached[OLD_NEW_OLD] += same;
+        expect(saltdelta_save(&b, image, sizeof image) == SALTDELTA_ACCEPTED, "a saving before a carrying");
+        if (one_in(2))
+            image[SALTDELTA_OLD_IMAGE] = RECOVERY_TOP;
+        number = carry(0, image, SALTDELTA_IMAGE, there, within(SALTDELTA_OLD_IMAGE, LONGEST_CARRIED));
+        expect((number == SALTDELTA_ACCEPTED) == (image[SALTDELTA_OLD_IMAGE] == RECOVERY_TOP), "the image of a record carried back");
+        if (number != SALTDELTA_ACCEPTED)
+            continue;
+        number = carry(1, there, SALTDELTA_OLD_IMAGE, again, within(SALTDELTA_IMAGE, LONGEST_CARRIED));
+        same = number == SALTDELTA_ACCEPTED && memcmp(again, image, SALTDELTA_IMAGE) == 0;
+        expect(same, "an image carried back and forward");
+        reached[NEW_OLD_NEW] += same;
+    }
+}
+
 /* 0 and RECOVERY_TOP, in the record as its image shows it, and in the report. */
 static void fresh(void) {
     const saltdelta_report r = saltdelta_fresh_report(), first = {.status = SALTDELTA_TRIPPED, .recovery = RECOVERY_TOP};
     const saltdelta_board b = saltdelta_fresh();
-    uint8_t image[SALTDELTA_IMAGE], zeros[SALTDELTA_IMAGE] = {0};
+    uint8_t image[SALTDELTA_IMAGE] = {0}, zeros[SALTDELTA_IMAGE] = {0};
     expect(same_report(&r, &first), "the report of a fresh board");
     expect(saltdelta_save(&b, image, sizeof image) == SALTDELTA_ACCEPTED && memcmp(image, zeros, SALTDELTA_IMAGE - 1) == 0
                && image[SALTDELTA_IMAGE - 1] == RECOVERY_TOP,
@@ -487,8 +624,7 @@ int main(int argc, char **argv) {
     for (int i = 0; i < 1000; i++) {
         saltdelta_board b = saltdelta_fresh();
         saltdelta_settings s = settings_read();
-        fputs("fresh\n", calls);
-        fputs("ok\n", answers);
+        anew();
         save(&b, within(SALTDELTA_IMAGE, 60));
         give_settings(&s);
         for (int k = 0; k < 20; k++)
@@ -507,6 +643,9 @@ int main(int argc, char **argv) {
     recoveries();
     for (size_t count = 0; count <= 350; count++)
         replay(count);
+    carries();
+    long_carries();
+    round_trips();
     if (fclose(calls) != 0 || fclose(answers) != 0)
         return 2;
     for (int i = 0; i < WAYS; i++) {

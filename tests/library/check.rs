@@ -1,8 +1,8 @@
 //! The library from Rust: target/staticlib/libsaltdelta.a against the comparison program, the same calls to both.
 //!
 //! Every call's number, and all memory lent to it, refused calls' too, must be the comparison program's; of what is lent to a refused
-//! call every byte must stay, those of padding too. The calls are made from fixed seeds. The last line is 'N passed, M failed', in cases:
-//! some hundred calls each, which all agree or not.
+//! call every byte must stay, those of padding too. An image carried over and back must be what it was. The calls are made from fixed seeds. The last line is 'N passed, M failed', in cases:
+//! some calls each, up to some seven hundred, which all agree or not.
 
 #[allow(dead_code)]
 #[path = "../../comparison/board.rs"]
@@ -17,8 +17,9 @@ use std::ptr::addr_of_mut;
 
 /// The top of the recovery count.
 const RECOVERY_TOP: u8 = 40;
-/// The bytes of an image.
+/// The bytes of an image, and of one of the old firmware.
 const IMAGE: u64 = 46;
+const OLD_IMAGE: usize = 45;
 
 // ---- made numbers
 
@@ -383,6 +384,43 @@ const RECOVERIES: [(&str, fn(&Board, &Report) -> bool); 14] = [
 const FROM_FRESH: usize = 9;
 const REACHED_AT_LEAST: u64 = 100;
 
+// ---- what is reached of carrying images over
+
+/// A call that carries an image, and what came of it.
+struct Carrying<'a> {
+    forward: bool,
+    source: &'a [u8],
+    room: usize,
+    number: u32,
+}
+
+impl Carrying<'_> {
+    /// The target has no room for the image.
+    fn brief(&self) -> bool {
+        self.room < if self.forward { IMAGE as usize } else { OLD_IMAGE }
+    }
+
+    /// The byte after an old image's is there, and is no full recovery count.
+    fn not_full(&self) -> bool {
+        self.source.get(OLD_IMAGE).is_some_and(|&recovery| recovery != RECOVERY_TOP)
+    }
+}
+
+/// The ways in which an image is carried, and in which it is refused with other causes behind the first.
+const CARRYINGS: [(&str, fn(&Carrying) -> bool); 11] = [
+    ("forward, carried", |c| c.forward && c.number == 0),
+    ("forward, refused with 10", |c| c.forward && c.number == 10),
+    ("forward, refused with 10, short target too", |c| c.forward && c.number == 10 && c.brief()),
+    ("forward, refused with 9", |c| c.forward && c.number == 9),
+    ("back, carried", |c| !c.forward && c.number == 0),
+    ("back, refused with 10", |c| !c.forward && c.number == 10),
+    ("back, refused with 10, another recovery too", |c| !c.forward && c.number == 10 && c.not_full()),
+    ("back, refused with 10, short target too", |c| !c.forward && c.number == 10 && c.brief()),
+    ("back, refused with 11", |c| !c.forward && c.number == 11),
+    ("back, refused with 11, short target too", |c| !c.forward && c.number == 11 && c.brief()),
+    ("back, refused with 9", |c| !c.forward && c.number == 9),
+];
+
 // ---- the comparisons: each makes one call to both and says whether they agree
 
 #[derive(Default)]
@@ -393,6 +431,7 @@ struct Tally {
     passed: u64,
     failed: u64,
     recoveries: [u64; RECOVERIES.len()],
+    carryings: [u64; CARRYINGS.len()],
 }
 
 impl Tally {
@@ -425,13 +464,13 @@ impl Tally {
     }
 
     /// A thing to be reached often enough is a case.
-    fn reached(&mut self, name: &str, count: u64) {
-        println!("{count:>9}  recovery {name}");
+    fn reached(&mut self, what: &str, name: &str, count: u64) {
+        println!("{count:>9}  {what} {name}");
         if count >= REACHED_AT_LEAST {
             self.passed += 1;
         } else {
             self.failed += 1;
-            println!("too few: recovery {name}");
+            println!("too few: {what} {name}");
         }
     }
 
@@ -439,7 +478,7 @@ impl Tally {
     fn recoveries(&mut self, ways: usize) {
         let counts = std::mem::take(&mut self.recoveries);
         for ((name, _), count) in RECOVERIES.into_iter().zip(counts).take(ways) {
-            self.reached(name, count);
+            self.reached("recovery", name, count);
         }
     }
 }
@@ -529,6 +568,24 @@ fn other_replay(settings: &Settings, samples: &[u32], report: &Report, buffer: &
         Ok(()) => (Replayed { number: 0, accepted }, report_of(&last), bytes),
         Err(number) => refused(number),
     }
+}
+
+/// One direction by the library and by the comparison program, the target with what stood in it before. Gives the number and the target. Bytes
+/// behind the target, which are not lent, stay as well.
+fn compare_carry(tally: &mut Tally, forward: bool, source: &[u8], target: &[u8]) -> (u32, Vec<u8>) {
+    let (ours, theirs): (fn(&[u8], &mut [u8]) -> u32, fn(&[u8], &mut [u8]) -> Result<(), u8>) =
+        if forward { (library::carry_forward, other::carry_forward) } else { (library::carry_back, other::carry_back) };
+    let (lent, mut after, mut expected) = (source.to_vec(), [target, &[0xAA; 4]].concat(), target.to_vec());
+    let number = theirs(source, &mut expected).map_or_else(u32::from, |()| 0);
+    let found = ours(&lent, &mut after[..target.len()]);
+    let behind = after.split_off(target.len());
+    let same = found == number && after == expected && lent == source && behind == [0xAA; 4] && (found == 0 || after == target);
+    tally.call(same, || format!("carrying {source:?} into {target:?}, forward {forward}: {found} {after:?}, not {number} {expected:?}"));
+    let carrying = Carrying { forward, source, room: target.len(), number: found };
+    for (count, (_, shown)) in tally.carryings.iter_mut().zip(CARRYINGS) {
+        *count += u64::from(shown(&carrying));
+    }
+    (found, after)
 }
 
 /// The same by the library's own steps, for a replay that is not refused.
@@ -703,6 +760,87 @@ fn replays(tally: &mut Tally, dice: &mut Dice, seen: &mut [u64; 10]) -> ([u64; 6
     (statuses, recoveries)
 }
 
+/// The longest source and target of an image that is carried over.
+const LONGEST: usize = 60;
+
+fn bytes(dice: &mut Dice, length: usize) -> Vec<u8> {
+    (0..length).map(|_| dice.next() as u8).collect()
+}
+
+/// Any byte but a full recovery count.
+fn any_but_full(dice: &mut Dice) -> u8 {
+    dice.within(i64::from(RECOVERY_TOP) + 1, i64::from(RECOVERY_TOP) + 255) as u8
+}
+
+/// Sources of 0 to 60 bytes into targets of 0 to 60, both ways, the byte after an old image's 40 and another; then every value of that byte.
+fn carries(tally: &mut Tally, dice: &mut Dice) {
+    for length in 0..=LONGEST {
+        for room in 0..=LONGEST {
+            for k in 0..6 {
+                let mut source = bytes(dice, length);
+                if length > OLD_IMAGE {
+                    source[OLD_IMAGE] = if k % 2 == 1 { RECOVERY_TOP } else { any_but_full(dice) };
+                }
+                compare_carry(tally, true, &source, &bytes(dice, room));
+                compare_carry(tally, false, &source, &bytes(dice, room));
+            }
+        }
+        tally.case();
+    }
+    for last in 0..=255 {
+        for room in 0..=LONGEST {
+            let mut source = bytes(dice, IMAGE as usize);
+            source[OLD_IMAGE] = last;
+            compare_carry(tally, false, &source, &bytes(dice, room));
+        }
+        tally.case();
+    }
+}
+
+/// Lengths whose low 8 or 16 bits are those of an image: a length is not cut on its way.
+fn long_carries(tally: &mut Tally, dice: &mut Dice) {
+    for more in [256, 65_536] {
+        for length in [OLD_IMAGE, IMAGE as usize] {
+            let mut source = bytes(dice, length + more);
+            source[OLD_IMAGE] = RECOVERY_TOP;
+            for forward in [true, false] {
+                compare_carry(tally, forward, &source, &bytes(dice, LONGEST));
+                compare_carry(tally, forward, &source[..length], &bytes(dice, more));
+                compare_carry(tally, forward, &source[..length], &bytes(dice, more + 1));
+            }
+        }
+    }
+    tally.case();
+}
+
+/// Old images carried forward and back; images of records carried back and, where that is allowed, forward again. Gives how often each was what it had been.
+fn round_trips(tally: &mut Tally, dice: &mut Dice) -> (u64, u64) {
+    let (mut old_new_old, mut new_old_new) = (0, 0);
+    let image = IMAGE as usize;
+    for _ in 0..2_000 {
+        let old = bytes(dice, OLD_IMAGE);
+        let (_, there) = compare_carry(tally, true, &old, &bytes(dice, image));
+        let (number, again) = compare_carry(tally, false, &there, &bytes(dice, OLD_IMAGE));
+        tally.call(number == 0 && again == old, || format!("{old:?} forward and back: {again:?}"));
+        old_new_old += u64::from(number == 0 && again == old);
+        let mut record = wild_record(dice);
+        if dice.one_in(2) {
+            record.recovery = RECOVERY_TOP;
+        }
+        let mut new = vec![0; image];
+        compare_save(tally, &record, &mut new);
+        let (number, there) = compare_carry(tally, false, &new, &bytes(dice, OLD_IMAGE));
+        tally.call((number == 0) == (record.recovery == RECOVERY_TOP), || format!("the image of {record:?} back: {number}"));
+        if number == 0 {
+            let (number, again) = compare_carry(tally, true, &there, &bytes(dice, image));
+            tally.call(number == 0 && again == new, || format!("{new:?} back and forward: {again:?}"));
+            new_old_new += u64::from(number == 0 && again == new);
+        }
+        tally.case();
+    }
+    (old_new_old, new_old_new)
+}
+
 fn main() {
     let mut tally = Tally::default();
     let mut seen = [0; 10];
@@ -725,8 +863,17 @@ fn main() {
     let (statuses, recoveries) = replays(&mut tally, &mut Dice(7), &mut seen);
     println!("replays: numbers answered {:?}, statuses at the end {:?}", seen, statuses);
     for (name, count) in ["0 at the end", "1 to 39 at the end", "limits the watts at the end"].into_iter().zip(recoveries) {
-        tally.reached(name, count);
+        tally.reached("recovery", name, count);
     }
+    carries(&mut tally, &mut Dice(4_546));
+    long_carries(&mut tally, &mut Dice(65_581));
+    let (old_new_old, new_old_new) = round_trips(&mut tally, &mut Dice(4_645));
+    println!("images carried over: sources and targets of 0 to {LONGEST} bytes, every last byte, there and back:");
+    for ((name, _), count) in CARRYINGS.into_iter().zip(tally.carryings) {
+        tally.reached("carrying", name, count);
+    }
+    tally.reached("carrying", "old to new to old", old_new_old);
+    tally.reached("carrying", "new to old to new", new_old_new);
     println!("calls: {}, {} of them differ", tally.calls, tally.differ);
     println!("{} passed, {} failed", tally.passed, tally.failed);
     if tally.failed > 0 {

@@ -79,6 +79,8 @@ extern "C" {
     fn saltdelta_read_sheet(settings: &mut Settings, bytes: *const u8, length: usize) -> Sheet;
     fn saltdelta_step(board: &mut Board, settings: &Settings, sample: *const u32, count: usize, report: &mut Report) -> u32;
     fn saltdelta_save(board: &Board, buffer: *mut u8, length: usize) -> u32;
+    fn saltdelta_carry_forward(source: *const u8, source_length: usize, target: *mut u8, target_length: usize) -> u32;
+    fn saltdelta_carry_back(source: *const u8, source_length: usize, target: *mut u8, target_length: usize) -> u32;
     fn saltdelta_replay(
         settings: &Settings,
         samples: *const u32,
@@ -107,6 +109,14 @@ pub fn step(board: &mut Board, settings: &Settings, sample: &[u32], report: &mut
 
 pub fn save(board: &Board, buffer: &mut [u8]) -> u32 {
     unsafe { saltdelta_save(board, buffer.as_mut_ptr(), buffer.len()) }
+}
+
+pub fn carry_forward(source: &[u8], target: &mut [u8]) -> u32 {
+    unsafe { saltdelta_carry_forward(source.as_ptr(), source.len(), target.as_mut_ptr(), target.len()) }
+}
+
+pub fn carry_back(source: &[u8], target: &mut [u8]) -> u32 {
+    unsafe { saltdelta_carry_back(source.as_ptr(), source.len(), target.as_mut_ptr(), target.len()) }
 }
 
 pub fn replay(settings: &Settings, samples: &[u32], report: &mut Report, buffer: &mut [u8]) -> Replayed {

@@ -15,6 +15,8 @@ use Rattle.service.proofs.fresh.Met as fresh-board
 use Rattle.service.proofs.fresh_report.Met as fresh-report
 use Rattle.service.proofs.step.step.Met as step
 use Rattle.image.proofs.save.Met as save
+use Rattle.carryover.proofs.forward.Met as forward
+use Rattle.carryover.proofs.back.Met as back
 use Rattle.replay.proofs.replay.Met as replay
 use Rattle.sheet.proofs.read.Met as read
 use Rattle.sheet.proofs.part.Met as part
@@ -26,6 +28,8 @@ use Rattle.saltdelta.proofs.saltdelta_fresh_report.Met as exported-fresh-report
 use Rattle.saltdelta.proofs.saltdelta_read_sheet.Met as exported-read-sheet
 use Rattle.saltdelta.proofs.saltdelta_step.Met as exported-step
 use Rattle.saltdelta.proofs.saltdelta_save.Met as exported-save
+use Rattle.saltdelta.proofs.saltdelta_carry_forward.Met as exported-forward
+use Rattle.saltdelta.proofs.saltdelta_carry_back.Met as exported-back
 use Rattle.saltdelta.proofs.saltdelta_replay.Met as exported-replay
 
 module _ {M : Type 1} (𝓤 : URA M) (H : Heap 𝓤) (A : Atoms 𝓤) (mem : Memory → SProp 𝓤) (run : Routine → Fun 𝓤) where
@@ -41,6 +45,8 @@ module _ {M : Type 1} (𝓤 : URA M) (H : Heap 𝓤) (A : Atoms 𝓤) (mem : Mem
         fresh-report = λ κs a. (tt, id⊢ 𝓤 _, λ r e. id⊢ 𝓤 _);
         step = λ κs a. (tt, id⊢ 𝓤 _, λ r e. both-facts 𝓤 _ _);
         save = λ κs a. (tt, id⊢ 𝓤 _, λ r e. both-facts 𝓤 _ _);
+        forward = λ κs a. (tt, id⊢ 𝓤 _, λ r e. both-facts 𝓤 _ _);
+        back = λ κs a. (tt, id⊢ 𝓤 _, λ r e. both-facts 𝓤 _ _);
         replay = λ κs a. (tt, id⊢ 𝓤 _, λ r e. both-facts 𝓤 _ _);
         read = λ κs a. (tt, id⊢ 𝓤 _, λ r e. both-facts 𝓤 _ _);
         part = λ κs a. (tt, id⊢ 𝓤 _, λ r e. id⊢ 𝓤 _);
@@ -52,6 +58,8 @@ module _ {M : Type 1} (𝓤 : URA M) (H : Heap 𝓤) (A : Atoms 𝓤) (mem : Mem
         exported-read-sheet = λ κs a. (tt, id⊢ 𝓤 _, λ r e. id⊢ 𝓤 _);
         exported-step = λ κs a. (tt, id⊢ 𝓤 _, λ r e. id⊢ 𝓤 _);
         exported-save = λ κs a. (tt, id⊢ 𝓤 _, λ r e. id⊢ 𝓤 _);
+        exported-forward = λ κs a. (tt, id⊢ 𝓤 _, λ r e. id⊢ 𝓤 _);
+        exported-back = λ κs a. (tt, id⊢ 𝓤 _, λ r e. id⊢ 𝓤 _);
         exported-replay = λ κs a. (tt, id⊢ 𝓤 _, λ r e. id⊢ 𝓤 _);
       }
 
@@ -64,6 +72,8 @@ code-meets =
       fresh-report = fresh-report.met;
       step = step.met;
       save = save.met;
+      forward = forward.met;
+      back = back.met;
       replay = replay.met;
       read = read.met;
       part = part.met;
@@ -75,5 +85,7 @@ code-meets =
       exported-read-sheet = exported-read-sheet.met;
       exported-step = exported-step.met;
       exported-save = exported-save.met;
+      exported-forward = exported-forward.met;
+      exported-back = exported-back.met;
       exported-replay = exported-replay.met;
     }

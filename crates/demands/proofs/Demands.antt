@@ -49,8 +49,14 @@ use Rattle.replay.proofs.Demanded.{replays-rightly}
 use Rattle.saltdelta.proofs.Refusals.{exported-refuse}
 use Rattle.saltdelta.proofs.Exported.{board-is, exported-replay}
 use Rattle.demands.specs.Demands.{ExportedRefusals, ExportedDemands, ExportedUnderTexts, OurReplay, ExportedReplay, ReplayGroups}
+use Rattle.demands.specs.Demands.{OurCarryOver, OneCarryOver, OurWayBack, AnyWayBack, ShamCarryOversCaught}
 use Rattle.demands.specs.Demands.{CodeContracts, CodeMeetsContracts}
+use Rattle.carryover.proofs.Carrying.{refused-rightly, round-trips}
+use Rattle.carryover.proofs.Numbered.{numbered}
 use Rattle.demands.proofs.Contracts.{contracts-say, code-meets}
+use Rattle.demands.proofs.CarryOver.{carries-records, histories-back}
+use Rattle.demands.proofs.OneCarryOver.{one-carry-over}
+use Rattle.demands.proofs.ShamCarryOvers.{added-first, room-first, what-fits, appends-less, drops-any, swaps-caught}
 use Rattle.demands.proofs.Edges.{edges-hold}
 use Rattle.demands.proofs.Lent.{lent-read}
 use Rattle.demands.proofs.Printed.{prints-by-history, one-printing, samples-on-lines}
@@ -172,6 +178,16 @@ powerLaws =
 pub ourRecovery : OurRecovery
 ourRecovery st ok = restores-power ourEquipment st our-equipment-sound ok
 
+pub ourCarryOver : OurCarryOver
+ourCarryOver =
+    record { refuses = refused-rightly; numbered = numbered; round-trips = round-trips; records = carries-records }
+
+pub oneCarryOver : OneCarryOver
+oneCarryOver = one-carry-over
+
+pub ourWayBack : OurWayBack
+ourWayBack = histories-back ourEquipment our-equipment-sound
+
 pub edgeValues : EdgeValues
 edgeValues = edges-hold
 
@@ -216,11 +232,25 @@ shamReadingsCaught =
 pub shamPrintingsCaught : ShamPrintingsCaught
 shamPrintingsCaught = record { goes-on = no-more; nothing = not-nothing }
 
+pub shamCarryOversCaught : ShamCarryOversCaught
+shamCarryOversCaught =
+    record {
+      added-first = added-first;
+      room-first = room-first;
+      written = what-fits;
+      appended = appends-less;
+      dropped = drops-any;
+      swaps = swaps-caught;
+    }
+
 pub anyTripAndReturn : AnyTripAndReturn
 anyTripAndReturn e sound = demand2 e sound
 
 pub anyRecovery : AnyRecovery
 anyRecovery e sound st ok = restores-power e st sound ok
+
+pub anyWayBack : AnyWayBack
+anyWayBack = histories-back
 
 pub anyTwoHistories : AnyTwoHistories
 anyTwoHistories e sound = demand3 e sound

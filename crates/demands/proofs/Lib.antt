@@ -10,5 +10,8 @@ pub mod ShamLines
 pub mod ShamRefusals
 pub mod ShamPrintings
 pub mod Printed
+pub mod CarryOver
+pub mod ShamCarryOvers
+pub mod OneCarryOver
 pub mod Contracts
 pub mod Demands

@@ -28,6 +28,7 @@ use Rattle.rules.specs.Records.{fresh, stepOf}
 use Rattle.rules.specs.Images.{imageLength, saveCheck, savedInto}
 use Rattle.claims.specs.Calls.{freshReport}
 use Rattle.claims.specs.FirstCause.{cause, first, settingsCauses, sampleCauses, causeLine}
+use Rattle.carryover.specs.CarryOver.{carryNumber, forwardAnswer, backAnswer, forwardInto, backInto, forwardCauses, backCauses}
 use Rattle.replay.specs.Replays.{replayed, replayedInto}
 use Rattle.sheet.specs.Outcomes.{SheetGiven}
 use Rattle.sheet.specs.Parts.{IsPart}
@@ -48,6 +49,10 @@ use Rattle.service.proofs.step.step as step
 use Rattle.service.proofs.step.step.Statement as step-code
 use Rattle.image.proofs.save as save
 use Rattle.image.proofs.save.Statement as save-code
+use Rattle.carryover.proofs.forward as forward
+use Rattle.carryover.proofs.forward.Statement as forward-code
+use Rattle.carryover.proofs.back as back
+use Rattle.carryover.proofs.back.Statement as back-code
 use Rattle.replay.proofs.replay as replay
 use Rattle.replay.proofs.replay.Statement as replay-code
 use Rattle.sheet.proofs.read as read
@@ -70,6 +75,10 @@ use Rattle.saltdelta.proofs.saltdelta_step as exported-step
 use Rattle.saltdelta.proofs.saltdelta_step.Statement as exported-step-code
 use Rattle.saltdelta.proofs.saltdelta_save as exported-save
 use Rattle.saltdelta.proofs.saltdelta_save.Statement as exported-save-code
+use Rattle.saltdelta.proofs.saltdelta_carry_forward as exported-forward
+use Rattle.saltdelta.proofs.saltdelta_carry_forward.Statement as exported-forward-code
+use Rattle.saltdelta.proofs.saltdelta_carry_back as exported-back
+use Rattle.saltdelta.proofs.saltdelta_carry_back.Statement as exported-back-code
 use Rattle.saltdelta.proofs.saltdelta_replay as exported-replay
 use Rattle.saltdelta.proofs.saltdelta_replay.Statement as exported-replay-code
 
@@ -87,8 +96,8 @@ Promises 𝓤 T c claim =
 -- in every model of the logic, as contracts are read
 module _ {M : Type 1} (𝓤 : URA M) (H : Heap 𝓤) (A : Atoms 𝓤) (mem : Memory → SProp 𝓤) (run : Routine → Fun 𝓤) where
   pub record ContractsSay : Type 2 where
-    -- `sensing::sense`, `settings::check`, `service::fresh`, `service::fresh_report`, `service::step::step`, `image::save`, `replay::replay`,
-    -- `sheet::read`, `sheet::part`, `reader::read_sheet`, `respond::start`, `respond::respond`
+    -- `sensing::sense`, `settings::check`, `service::fresh`, `service::fresh_report`, `service::step::step`, `image::save`, `carryover::forward`,
+    -- `carryover::back`, `replay::replay`, `sheet::read`, `sheet::part`, `reader::read_sheet`, `respond::start`, `respond::respond`
     pub sense : Promises 𝓤 sense.ended (sense.clauses 𝓤 H A mem run)
         (λ κs a r e. (r ≡ sensed (a .0)) × (sensedNumber r ≡ first (cause 4 (ltb lastCode (a .0)) ∷ [])))
     pub check : Promises 𝓤 check.ended (check.clauses 𝓤 H A mem run)
@@ -101,6 +110,12 @@ module _ {M : Type 1} (𝓤 : URA M) (H : Heap 𝓤) (A : Atoms 𝓤) (mem : Mem
     pub save : Promises 𝓤 save.ended (save.clauses 𝓤 H A mem run)
         (λ κs a r e. ((r ≡ saveCheck (now (a .1 .0))) × (now (e .1 .0) ≡ savedInto (a .0) (now (a .1 .0))))
         × (savedNumber r ≡ first (cause 9 (ltb (length (now (a .1 .0))) imageLength) ∷ [])))
+    pub forward : Promises 𝓤 forward.ended (forward.clauses 𝓤 H A mem run)
+        (λ κs a r e. ((r ≡ forwardAnswer (now (a .0)) (now (a .1 .0))) × (now (e .1 .0) ≡ forwardInto (now (a .0)) (now (a .1 .0))))
+        × (carryNumber r ≡ first (forwardCauses (now (a .0)) (now (a .1 .0)))))
+    pub back : Promises 𝓤 back.ended (back.clauses 𝓤 H A mem run)
+        (λ κs a r e. ((r ≡ backAnswer (now (a .0)) (now (a .1 .0))) × (now (e .1 .0) ≡ backInto (now (a .0)) (now (a .1 .0))))
+        × (carryNumber r ≡ first (backCauses (now (a .0)) (now (a .1 .0)))))
     pub replay : Promises 𝓤 replay.ended (replay.clauses 𝓤 H A mem run)
         (λ κs a r e. ((r ≡ replayed (a .0) (now (a .1 .0)) (now (a .1 .1 .0)))
         × (now (e .1 .1 .0) ≡ replayedInto (a .0) (now (a .1 .0)) (now (a .1 .1 .0))))
@@ -124,6 +139,10 @@ module _ {M : Type 1} (𝓤 : URA M) (H : Heap 𝓤) (A : Atoms 𝓤) (mem : Mem
         × (r ≡ stepNumber (now (a .0)) (now (a .1 .0)) (now (a .1 .1 .0))))
     pub exported-save : Promises 𝓤 exported-save.ended (exported-save.clauses 𝓤 H A mem run)
         (λ κs a r e. (r ≡ savedNumber (saveCheck (now (a .1 .0)))) × (now (e .1 .0) ≡ savedInto (now (a .0)) (now (a .1 .0))))
+    pub exported-forward : Promises 𝓤 exported-forward.ended (exported-forward.clauses 𝓤 H A mem run)
+        (λ κs a r e. (r ≡ carryNumber (forwardAnswer (now (a .0)) (now (a .1 .0)))) × (now (e .1 .0) ≡ forwardInto (now (a .0)) (now (a .1 .0))))
+    pub exported-back : Promises 𝓤 exported-back.ended (exported-back.clauses 𝓤 H A mem run)
+        (λ κs a r e. (r ≡ carryNumber (backAnswer (now (a .0)) (now (a .1 .0)))) × (now (e .1 .0) ≡ backInto (now (a .0)) (now (a .1 .0))))
     pub exported-replay : Promises 𝓤 exported-replay.ended (exported-replay.clauses 𝓤 H A mem run)
         (λ κs a r e. (now (e .1 .1 .0) ≡ replayReport (now (a .1 .1 .0)) (now (a .0)) (now (a .1 .0)) (now (a .1 .1 .1 .0)))
         × (now (e .1 .1 .1 .0) ≡ replayedInto (now (a .0)) (now (a .1 .0)) (now (a .1 .1 .1 .0)))
@@ -137,6 +156,8 @@ pub record CodeMeets (M : Type 1) : Type 2 where
   pub fresh-report : fresh-report-code.statement M
   pub step : step-code.statement M
   pub save : save-code.statement M
+  pub forward : forward-code.statement M
+  pub back : back-code.statement M
   pub replay : replay-code.statement M
   pub read : read-code.statement M
   pub part : part-code.statement M
@@ -148,4 +169,6 @@ pub record CodeMeets (M : Type 1) : Type 2 where
   pub exported-read-sheet : exported-read-sheet-code.statement M
   pub exported-step : exported-step-code.statement M
   pub exported-save : exported-save-code.statement M
+  pub exported-forward : exported-forward-code.statement M
+  pub exported-back : exported-back-code.statement M
   pub exported-replay : exported-replay-code.statement M

@@ -2,15 +2,17 @@
 --
 -- `ours` is what the code's contracts promise, and a demand holds of the code through them. `fresh` is the result of `service::fresh`,
 -- `stepOf ourEquipment` that of `service::step::step`, `saveCheck` and `savedInto` those of `image::save`, `settingsCheck` that of `settings::check`, `sensed` that of `sensing::sense`, `readSheet` and `handedBack`
--- those of `reader::read_sheet` (and of `sheet::read` and `sheet::part`), `respondOf ourEquipment` that of `respond::respond`. Each of those
+-- those of `reader::read_sheet` (and of `sheet::read` and `sheet::part`), `forwardAnswer` and `forwardInto` those of `carryover::forward`, `backAnswer` and `backInto` those of
+-- `carryover::back`, `respondOf ourEquipment` that of `respond::respond`. Each of those
 -- contracts is proved in its crate for every record, settings, slice, code, buffer, state and text there can be; `CodeContracts`, at the
 -- end, states that they say these words.
 -- The exported functions, for C and Rust, promise the same words: `saltdelta_fresh` gives `fresh`; the number, record and report of
 -- `saltdelta_step` are those of `stepOf ourEquipment`, the answer and settings of `saltdelta_read_sheet` those of `readSheet` and `handedBack`
--- (saltdelta/specs/Answers.antt); `saltdelta_save` has `saveCheck` and `savedInto`. A refused one leaves record, report, settings and buffer as they
+-- (saltdelta/specs/Answers.antt); `saltdelta_save` has `saveCheck` and `savedInto`, `saltdelta_carry_forward` and `saltdelta_carry_back` have
+-- the numbers of `forwardAnswer` and `backAnswer`, and `forwardInto` and `backInto`. A refused one leaves record, report, settings, buffer and target as they
 -- were lent: `ExportedRefusals`.
 -- `ourEquipment` is the sensing rule of spec 2.2 and the voltage regions of spec 6.7. The words of the statements are defined in the crates
--- `claims`, `rules`, `roots`, `formats`, `program`, `replay` and `saltdelta`, those of the contracts in `sheet`, `reader`, `respond`, `buffers` and `text` too.
+-- `claims`, `rules`, `roots`, `formats`, `program`, `carryover`, `replay` and `saltdelta`, those of the contracts in `sheet`, `reader`, `respond`, `buffers` and `text` too.
 -- Assumes nothing.
 use mathlib.Core.Path.{_≡_}
 use mathlib.Core.Bool.{true}
@@ -59,6 +61,7 @@ use Rattle.claims.specs.TwoHistories.{TwoHistoriesBy, Demand3By, Demand3}
 use Rattle.claims.specs.Bits.{UnpacksBits}
 use Rattle.claims.specs.LentRecords.{ReadsRecords}
 use Rattle.claims.specs.Printed.{sampleOn, printedStatus, PrintsByHistory}
+use Rattle.carryover.specs.Carries.{CarryOperation, ourForward, ourBack, AllBytes, CarryRefusedRightly, CarryNumbered, RoundTrips, CarriesRecords, CarriesHistoriesBack}
 use Rattle.replay.specs.Replays.{groups, replayed, replayedInto}
 use Rattle.replay.specs.Demanded.{GroupsBySeven, ReplaysRightly}
 use Rattle.saltdelta.specs.Answers.{sheetAnswer, settingsAfter}
@@ -79,6 +82,7 @@ use Rattle.demands.specs.Shams.{inventsBits, hidesTrips, saysTripped, sa
 use Rattle.demands.specs.Shams.{reportFullAtOnce, reportUnheld, reportWithheld}
 use Rattle.demands.specs.Shams.{takesAsLent, takesUnended, largeNoNumber, stepsUnended, stepsPastReturn}
 use Rattle.demands.specs.Shams.{turnsAwayLastCode, goesOn, saysNothing}
+use Rattle.demands.specs.ShamCarryOvers.{addedFirst, roomFirst, dropsAny, carriesWhatFits, appendsLess, swapsForward, swapsBack}
 use Rattle.demands.specs.ShamRefusals.{refusesLastCode, storesReading, sampleFirst, writesWhatFits, linesFromZero, handsRest}
 
 abbrev pub ours : Program
@@ -294,6 +298,31 @@ pub record PowerLaws : Type 0 where
 abbrev pub OurRecovery : Type 0
 OurRecovery = (st : Settings) → settingsAccepted st ≡ true → RestoresPower ourEquipment st (historyReport ourEquipment st)
 
+-- ---- images carried over
+
+-- Images of the old firmware, from before the recovery count, which have 45 bytes, carried forward to this one, and images of this one carried back: carryover/specs/Carries.antt, of
+-- our two operations. Each is refused by the number of its first cause, 10, 11, 9 in this order, and leaves the target then; the bytes behind the image stay
+-- (`CarryRefusedRightly`). Each number once more by what it is given for (`CarryNumbered`). An image carried there and back, or back and there where that is allowed, is what it
+-- was, and back is allowed exactly where the last byte is 40 (`RoundTrips`). A record's old image becomes the image of that record with a recovery count of 40; its image can be
+-- carried back exactly where the count is 40, and becomes its old image (`CarriesRecords`).
+pub record OurCarryOver : Type 0 where
+  pub refuses : CarryRefusedRightly ourForward ourBack
+  pub numbered : CarryNumbered ourForward ourBack
+  pub round-trips : RoundTrips ourForward ourBack
+  pub records : CarriesRecords ourForward ourBack
+
+-- So there is no choice in it: whatever refuses so, and carries the images of records so, gives for any lent bytes the number and the target that ours gives.
+abbrev pub OneCarryOver : Type 0
+OneCarryOver =
+    (forward back : CarryOperation) → CarryRefusedRightly forward back → CarriesRecords forward back
+    → (source target : List ℕ) → AllBytes source
+    → (forward source target ≡ ourForward source target) × (back source target ≡ ourBack source target)
+
+-- For an owner who goes back: `CarriesHistoriesBack`. After any list of calls under an accepted sheet, refused ones included, the record's image can be carried back
+-- exactly where the last report shows a recovery count of 40, and so wherever it says `tripped`.
+abbrev pub OurWayBack : Type 0
+OurWayBack = (st : Settings) → settingsAccepted st ≡ true → CarriesHistoriesBack ourBack ours st
+
 -- The values of spec 14.1, one table: specs/Edges.antt.
 abbrev pub EdgeValues : Type 0
 EdgeValues = EdgesHold
@@ -371,6 +400,16 @@ pub record ShamPrintingsCaught : Type 0 where
   pub goes-on : ¬ PrintsByHistory ourEquipment goesOn
   pub nothing : ¬ PrintsByHistory ourEquipment saysNothing
 
+-- Six shams do not carry over as they should. By their refusals: 11 looked for before 10, 9 before 11, and a target written and then refused. By the round trips: 39
+-- appended in place of 40, and any last byte left out. The sixth swaps two bytes both ways: it refuses as it should and its round trips hold, and only the images of records tell it from ours.
+pub record ShamCarryOversCaught : Type 0 where
+  pub added-first : ¬ CarryRefusedRightly ourForward addedFirst
+  pub room-first : ¬ CarryRefusedRightly ourForward roomFirst
+  pub written : ¬ CarryRefusedRightly carriesWhatFits ourBack
+  pub appended : ¬ RoundTrips appendsLess ourBack
+  pub dropped : ¬ RoundTrips ourForward dropsAny
+  pub swaps : CarryRefusedRightly swapsForward swapsBack × RoundTrips swapsForward swapsBack × (¬ CarriesRecords swapsForward swapsBack)
+
 -- ---- wider than asked: any sensing table and any voltage regions with the facts of `Sound`, which ours have
 
 abbrev pub AnyTripAndReturn : Type 0
@@ -381,6 +420,9 @@ AnyTwoHistories = (e : Equipment) → Sound e → Demand3 e (ruledBy e)
 
 abbrev pub AnyRecovery : Type 0
 AnyRecovery = (e : Equipment) → Sound e → (st : Settings) → settingsAccepted st ≡ true → RestoresPower e st (historyReport e st)
+
+abbrev pub AnyWayBack : Type 0
+AnyWayBack = (e : Equipment) → Sound e → (st : Settings) → settingsAccepted st ≡ true → CarriesHistoriesBack ourBack (ruledBy e) st
 
 abbrev pub OurEquipmentSound : Type 0
 OurEquipmentSound = Sound ourEquipment
@@ -393,8 +435,8 @@ AlikeEquipmentStepsAlike = (e f : Equipment) → Alike e f → (b : Board) (st :
 -- ---- the exported functions and the replay, in the words of their contracts
 
 -- Demand 1 of what is called from C and Rust: `ExportedRefuse` in saltdelta/specs/Refuses.antt. The number that `saltdelta_step`,
--- `saltdelta_read_sheet`, `saltdelta_save` and `saltdelta_replay` answer is that of the first cause in the order of spec 11.2, 0 where there is none;
--- record, report, settings and buffer that are lent to a refused call stay as they were; and what reading a sheet hands back is a part of the
+-- `saltdelta_read_sheet`, `saltdelta_save`, `saltdelta_carry_forward`, `saltdelta_carry_back` and `saltdelta_replay` answer is that of the first cause in the order of spec 11.2, 0 where
+-- there is none; record, report, settings, buffer and target that are lent to a refused call stay as they were; and what reading a sheet hands back is a part of the
 -- caller's own bytes.
 abbrev pub ExportedRefusals : Type 0
 ExportedRefusals = ExportedRefuse

@@ -1,5 +1,6 @@
 pub mod Edges
 pub mod ShamRefusals
+pub mod ShamCarryOvers
 pub mod Shams
 pub mod Lent
 pub mod Contracts

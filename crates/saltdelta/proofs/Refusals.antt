@@ -24,6 +24,7 @@ use Rattle.claims.specs.SheetCauses.{FirstCauseAt, lineCause}
 use Rattle.basics.proofs.Refusals.{number-bounds, none-refused}
 use Rattle.laws.proofs.FirstCause.{refuses-rightly}
 use Rattle.laws.proofs.SheetCauses.{sheets-refused-rightly}
+use Rattle.carryover.proofs.Carrying.{refused-rightly}
 use Rattle.replay.specs.Replays.{replayNumber, replayed, replayedInto}
 use Rattle.replay.proofs.Answering.{kept, number-first}
 use Rattle.replay.proofs.Demanded.{no-samples, buffer-kept}
@@ -110,5 +111,6 @@ exported-refuse =
         part = part-in-place;
       };
       save = record { number = refuses-rightly ourEquipment .save fresh; buffer-kept = refuses-rightly ourEquipment .save-keeps };
+      carry = refused-rightly;
       replay = record { number = replay-cause; none = none-accepted; report-kept = last-report-kept; buffer-kept = image-kept };
     }

@@ -18,6 +18,7 @@ use Rattle.rules.specs.declared.Report.{Report}
 use Rattle.rules.specs.declared.Settings.{Settings}
 use Rattle.claims.specs.FirstCause.{cause, first, settingsCauses, sampleCauses}
 use Rattle.claims.specs.SheetCauses.{FirstCauseAt, lineCause}
+use Rattle.carryover.specs.Carries.{ourForward, ourBack, CarryRefusedRightly}
 use Rattle.replay.specs.Replays.{replayedInto}
 use Rattle.saltdelta.specs.Answers.{recordAfter, reportAfter, stepNumber, sheetAnswer, settingsAfter, replayAnswer, replayReport}
 
@@ -50,8 +51,10 @@ pub record ReplayRefuses : Type 0 where
       → replayReport before st samples buffer ≡ before
   pub buffer-kept : (st : Settings) (samples buffer : List ℕ) → 0 < replayAnswer st samples buffer .number → replayedInto st samples buffer ≡ buffer
 
+-- all of them; `carry` is of `saltdelta_carry_forward` and `saltdelta_carry_back`: the source by 10 and 11, then the target by 9
 pub record ExportedRefuse : Type 0 where
   pub step : StepRefuses
   pub sheet : SheetRefuses
   pub save : SaveRefuses
+  pub carry : CarryRefusedRightly ourForward ourBack
   pub replay : ReplayRefuses

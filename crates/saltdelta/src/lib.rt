@@ -6,8 +6,11 @@ ghost use Rattle.rules.specs.Records.{fresh};
 ghost use Rattle.rules.specs.Images.{saveCheck, savedInto};
 ghost use Rattle.rules.specs.Sheets.{readSheet};
 ghost use Rattle.claims.specs.Calls.{freshReport};
+ghost use Rattle.carryover.specs.CarryOver.{carryNumber, forwardAnswer, backAnswer, forwardInto, backInto};
 ghost use Rattle.replay.specs.Replays.{replayed, replayedInto};
 ghost use Rattle.saltdelta.specs.Answers.{sheetAnswer, settingsAfter, recordAfter, reportAfter, stepNumber, replayAnswer, replayReport};
+use carryover::CarryAnswer;
+use carryover::carry_number;
 use rules::Answer;
 use rules::Board;
 use rules::Refusal;
@@ -92,6 +95,24 @@ pub extern "C" fn saltdelta_save(board: &Board, buffer: &mut [u8]) -> u32
     save_number(*board, buffer)
 }
 
+// An image of the old firmware as one of this firmware, at the front of a lent target; a refused call leaves the target as it was.
+#[no_mangle]
+pub extern "C" fn saltdelta_carry_forward(source: &[u8], target: &mut [u8]) -> u32
+    ensures { λ r. ⌜ (r ≡ carryNumber (forwardAnswer (now (source .entry)) (now (target .entry))))
+        × (now (target .exit) ≡ forwardInto (now (source .entry)) (now (target .entry))) ⌝ }
+{
+    number_answered(carryover::forward(source, target))
+}
+
+// An image of this firmware, its recovery count full, as one of the old firmware; likewise.
+#[no_mangle]
+pub extern "C" fn saltdelta_carry_back(source: &[u8], target: &mut [u8]) -> u32
+    ensures { λ r. ⌜ (r ≡ carryNumber (backAnswer (now (source .entry)) (now (target .entry))))
+        × (now (target .exit) ≡ backInto (now (source .entry)) (now (target .entry))) ⌝ }
+{
+    number_answered(carryover::back(source, target))
+}
+
 // Lent samples, seven numbers each, replayed from a fresh record under lent settings: the last report, and the record's image at the front
 // of a lent buffer. A refused replay leaves report and buffer as they were.
 #[no_mangle]
@@ -139,6 +160,13 @@ fn number_of(cause: Refusal) -> u32
     ensures { λ r. ⌜ r ≡ refusalNumber cause ⌝ }
 {
     refusal_number(cause) as u32
+}
+
+// The number of what carrying an image over answers.
+fn number_answered(answer: CarryAnswer) -> u32
+    ensures { λ r. ⌜ r ≡ carryNumber answer ⌝ }
+{
+    carry_number(answer) as u32
 }
 
 // The sheet at the front of lent bytes.

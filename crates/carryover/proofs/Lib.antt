@@ -1,0 +1,4 @@
+pub mod Copies
+pub mod Outcomes
+pub mod Carrying
+pub mod Numbered

@@ -1,0 +1,2 @@
+pub mod CarryOver
+pub mod Carries
