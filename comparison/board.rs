@@ -3,8 +3,8 @@
 //! definitions nor its design; then amended, by such a hand too, from the change request (document 02 there, request 1), which was told over in
 //! short as well, with one reading that the papers do not state: watts are limited by the count
 //! after the step (docs/DECISIONS.md). Request 2 of document 02 was added by a hand that had,
-//! beside this program, only the words of document 01 and of requests 1 and 2 of document 02, and
-//! the interface that the tests need. No code is shared.
+//! beside this program, only the words of document 01 and of requests 1 and 2 of document 02, the
+//! interface that the tests need, and a list of what to test (docs/DECISIONS.md). No code is shared.
 //! Standard library only, one file:
 //!
 //!     rustc -O --edition 2021 board.rs            the program `board`
@@ -563,7 +563,8 @@ pub fn save(board: &Board, buffer: &mut [u8]) -> Result<(), u8> {
 // Images of the old firmware, carried over: spec 9.5
 // ---------------------------------------------------------------------------
 //
-// Told: the source is the image and nothing more; the result stands at the target's front.
+// Told: the source is the image and nothing more; the result stands at the target's front; a
+// copy that touches bytes behind it is wrong.
 // Decision: both directions check, though only going back meets a recovery byte. A source that
 // is too long is as wrong as one that is too short, and neither direction lets an image through
 // that has the other form already.

@@ -187,8 +187,8 @@ uint32_t saltdelta_save(const saltdelta_board *board, uint8_t *buffer, size_t le
 uint32_t saltdelta_carry_forward(const uint8_t *source, size_t source_length, uint8_t *target, size_t target_length);
 
 /* Carries an image of this firmware back to the old one: the first 45 bytes of `source`, 46 bytes of which the last, the recovery count, is
- * 40, in the first 45 of `target_length` lent bytes. The bytes after them are untouched. Source and target do not overlap. The image of a fresh
- * board, and of one that an accepted step has left tripped, can always be carried back. */
+ * 40, in the first 45 of `target_length` lent bytes. The bytes after them are untouched. Source and target do not overlap. Of a board
+ * that began with saltdelta_fresh and was stepped under one sheet the image can always be carried back while it is tripped. */
 uint32_t saltdelta_carry_back(const uint8_t *source, size_t source_length, uint8_t *target, size_t target_length);
 
 /* Replays recorded samples: `count` numbers, seven a sample, step a fresh record one sample after another under the same settings. Writes
