@@ -4,7 +4,9 @@
 //! short as well, with one reading that the papers do not state: watts are limited by the count
 //! after the step (docs/DECISIONS.md). Request 2 of document 02 was added by a hand that had,
 //! beside this program, only the words of document 01 and of requests 1 and 2 of document 02, the
-//! interface that the tests need, and a list of what to test (docs/DECISIONS.md). No code is shared.
+//! interface that the tests need, and a list of what to test (docs/DECISIONS.md). Request 3 was added by
+//! a hand that had this program, the words of document 01 and of requests 1 to 3 of document 02, and the
+//! interface with its numbers. No code is shared.
 //! Standard library only, one file:
 //!
 //!     rustc -O --edition 2021 board.rs            the program `board`
@@ -86,6 +88,17 @@ pub struct Report {
     pub vars: i16,
 }
 
+/// Why a report has its status and its watts.
+#[derive(Clone, Copy, Debug, PartialEq, Eq)]
+pub struct Rules {
+    /// The rule for the status, `STATUS_BY_...`.
+    pub status: u8,
+    /// Where that rule is a limit, its place in the sheet, 1 (uv1) to 8 (of2); otherwise 0.
+    pub limit: u8,
+    /// The rule for the watts, `WATTS_BY_...`.
+    pub watts: u8,
+}
+
 /// What reading a sheet gives.
 #[derive(Clone, Copy, Debug, PartialEq, Eq)]
 pub enum SheetResult<'a> {
@@ -118,6 +131,26 @@ pub const SAMPLE_FORM: u8 = 8;
 pub const IMAGE_BUFFER: u8 = 9;
 pub const SOURCE_LENGTH: u8 = 10;
 pub const NOT_RECOVERED: u8 = 11;
+
+// Told: the numbers of the rules.
+pub const STATUS_BY_PERMISSION: u8 = 1;
+pub const STATUS_BY_LIMIT: u8 = 2;
+pub const STATUS_BY_WAIT: u8 = 3;
+pub const STATUS_BY_RETURN: u8 = 4;
+pub const STATUS_BY_LOWEST: u8 = 5;
+pub const STATUS_BY_HIGHEST: u8 = 6;
+pub const STATUS_BY_FREQUENCY: u8 = 7;
+
+/// The place of no limit.
+pub const NO_LIMIT: u8 = 0;
+
+pub const WATTS_BY_STATUS: u8 = 1;
+pub const WATTS_BY_AVAILABLE: u8 = 2;
+pub const WATTS_BY_OPERATOR: u8 = 3;
+pub const WATTS_BY_SHARE: u8 = 4;
+pub const WATTS_BY_CURVE: u8 = 5;
+pub const WATTS_BY_NAMEPLATE: u8 = 6;
+pub const WATTS_BY_RECOVERY: u8 = 7;
 
 // ---------------------------------------------------------------------------
 // The sheet
@@ -333,6 +366,15 @@ fn voltage(code: u32) -> u32 {
     square_root(code * 100_000)
 }
 
+/// The lowest and the highest of the three voltages, and their mean rounded down.
+fn voltages(codes: [u32; 3]) -> (u32, u32, u32) {
+    let phases = codes.map(voltage);
+    let lowest = phases[0].min(phases[1]).min(phases[2]);
+    let highest = phases[0].max(phases[1]).max(phases[2]);
+    let mean = (phases[0] + phases[1] + phases[2]) / 3;
+    (lowest, highest, mean)
+}
+
 /// The power of a curve at a voltage. The curve's voltages rise strictly.
 fn curve(points: &[Point], voltage: u32) -> i64 {
     let first = points[0];
@@ -443,10 +485,7 @@ pub fn step(board: &mut Board, settings: &Settings, sample: &[u32]) -> Result<Re
     check_settings(settings)?;
     let [code_a, code_b, code_c, frequency, permission, available, limit] = check_sample(sample)?;
 
-    let phases = [voltage(code_a), voltage(code_b), voltage(code_c)];
-    let lowest = phases[0].min(phases[1]).min(phases[2]);
-    let highest = phases[0].max(phases[1]).max(phases[2]);
-    let mean = (phases[0] + phases[1] + phases[2]) / 3;
+    let (lowest, highest, mean) = voltages([code_a, code_b, code_c]);
 
     let mut counters = [0; 9];
     let mut bits = [false; 9];
@@ -535,6 +574,112 @@ pub fn step(board: &mut Board, settings: &Settings, sample: &[u32]) -> Result<Re
     let (share, watts, vars) = (share as u16, watts as u16, vars as i16);
     *board = Board { status, counters, ramp, watts, vars, recovery };
     Ok(Report { status, bits, share, recovery, watts, vars })
+}
+
+// ---------------------------------------------------------------------------
+// The rules for a report's status and watts: document 02, request 3
+// ---------------------------------------------------------------------------
+//
+// They are worked out beside the step, from the record before it, the sheet, the sample and the
+// report.
+// Told: `Rules` with its three numbers, `fresh_rules` and `step_explained`.
+// Decision: they stand in no record and no image. The request names neither, and none is needed:
+// a board that was tripped before has one rule, whatever tripped it.
+
+/// The rules that come with a fresh board's report.
+pub fn fresh_rules() -> Rules {
+    Rules { status: STATUS_BY_WAIT, limit: NO_LIMIT, watts: WATTS_BY_STATUS }
+}
+
+/// The rule for the band: the first of lowest voltage, highest voltage and frequency whose own
+/// band is the worst.
+/// Decision: in the continuous band all three are continuous, so all are worst and the lowest
+/// voltage is named, while the ramp is short and when it is full.
+/// Decision: the order stands too where all three phases are too high. The lowest voltage then
+/// has the worst band itself and is named, though it is not low.
+fn rule_for_band(lowest: u32, highest: u32, frequency: u32) -> u8 {
+    let by_lowest = band_of_voltage(lowest);
+    let by_highest = band_of_voltage(highest);
+    let by_frequency = band_of_frequency(frequency);
+    let worst = by_lowest.max(by_highest).max(by_frequency);
+    if by_lowest == worst {
+        STATUS_BY_LOWEST
+    } else if by_highest == worst {
+        STATUS_BY_HIGHEST
+    } else {
+        STATUS_BY_FREQUENCY
+    }
+}
+
+/// The place in the sheet of the first completed limit.
+/// Decision: a limit is completed when its bit is 1, that is with its clearing time full at this
+/// step.
+fn first_completed(bits: &[bool; 9]) -> u8 {
+    let first = bits[..8].iter().position(|&bit| bit);
+    first.expect("with permission only a limit trips") as u8 + 1
+}
+
+/// The rule for the status, and the limit's place where it is a limit. `by_band` is the rule
+/// where service began earlier and goes on.
+/// Decision: the status before is the one the step reads. A record with an unknown status has
+/// been tripped since an earlier step, as a fresh one.
+/// Decision: a board tripped since an earlier step waits, also where permission is 0 or a limit
+/// is completed now: the wait is not full then either.
+fn rule_for_status(status_before: u8, permission: u32, report: &Report, by_band: u8) -> (u8, u8) {
+    let tripped_before = !(ENTERING..=CEASE).contains(&status_before);
+    let tripped_now = report.status == TRIPPED;
+    match (tripped_before, tripped_now) {
+        (false, true) if permission == 0 => (STATUS_BY_PERMISSION, NO_LIMIT),
+        (false, true) => (STATUS_BY_LIMIT, first_completed(&report.bits)),
+        (true, true) => (STATUS_BY_WAIT, NO_LIMIT),
+        (true, false) => (STATUS_BY_RETURN, NO_LIMIT),
+        (false, false) => (by_band, NO_LIMIT),
+    }
+}
+
+/// The rule for the watts: the first of the six limits that equals the least of them.
+/// Decision: statuses with no output are those whose watts and vars are 0 by their rule: tripped,
+/// momentary, cease. Watts that come out as 0 in another status, as at every return, have a limit
+/// for a rule.
+/// Decision: where nothing holds the watts down all six are 10000, and the first is named.
+fn rule_for_watts(status: u8, limits: &[(u8, i64); 6]) -> u8 {
+    if status == TRIPPED || status == MOMENTARY || status == CEASE {
+        return WATTS_BY_STATUS;
+    }
+    let least = limits.iter().map(|&(_, limit)| limit).min().expect("six limits");
+    let first = limits.iter().find(|&&(_, limit)| limit == least).expect("one is the least");
+    first.0
+}
+
+/// The rules for the report of an accepted sample.
+fn explain(status_before: u8, settings: &Settings, sample: &[u32], report: &Report) -> Rules {
+    let &[code_a, code_b, code_c, frequency, permission, available, limit] = sample else {
+        unreachable!("an accepted sample has seven numbers");
+    };
+    let (lowest, highest, mean) = voltages([code_a, code_b, code_c]);
+    let by_band = rule_for_band(lowest, highest, frequency);
+    let (status, place) = rule_for_status(status_before, permission, report, by_band);
+    // The report's vars are the var curve's wherever its watts have a limit for a rule. The
+    // recovery count limits as this step leaves it (see the step).
+    let recovered = 10000 * i64::from(report.recovery) / i64::from(RECOVERY_TOP);
+    let limits = [
+        (WATTS_BY_AVAILABLE, i64::from(available)),
+        (WATTS_BY_OPERATOR, i64::from(limit)),
+        (WATTS_BY_SHARE, i64::from(report.share)),
+        (WATTS_BY_CURVE, curve(&settings.watt, mean)),
+        (WATTS_BY_NAMEPLATE, watts_beside(i64::from(report.vars))),
+        (WATTS_BY_RECOVERY, recovered),
+    ];
+    Rules { status, limit: place, watts: rule_for_watts(report.status, &limits) }
+}
+
+/// The step, with the rules beside its report. A refused call gives no rules.
+pub fn step_explained(
+    board: &mut Board, settings: &Settings, sample: &[u32],
+) -> Result<(Report, Rules), u8> {
+    let status_before = board.status;
+    let report = step(board, settings, sample)?;
+    Ok((report, explain(status_before, settings, sample, &report)))
 }
 
 // ---------------------------------------------------------------------------
@@ -801,7 +946,21 @@ fn bytes(word: &str) -> Vec<u8> {
     word.as_bytes().chunks_exact(2).map(|pair| 16 * value(pair[0]) + value(pair[1])).collect()
 }
 
+/// The words of an accepted step's report in an answer.
+fn report_words(report: &Report) -> String {
+    let Report { status, bits, share, recovery, watts, vars } = *report;
+    let bits = binary(&bits);
+    format!("report {} {:09b} {} {} {} {}", status, bits, share, recovery, watts, vars)
+}
+
+/// The words of the rules in an answer.
+fn rules_words(rules: &Rules) -> String {
+    format!("rules {} {} {}", rules.status, rules.limit, rules.watts)
+}
+
 /// Answers one call.
+/// Told: `explain` is `step` with the rules between report and image where it is accepted;
+/// `rules` answers with those of a fresh board's report, whatever record is lent.
 /// Told: `forward` and `back` name the target's size and the source, whose word is missing when
 /// it is empty; the target is filled as the buffer of `save` is.
 /// Decision: STATUS is the number of the status, as in the record; hex digits are small.
@@ -835,23 +994,22 @@ fn answer_call(call: &str, board: &mut Board, settings: &mut Settings) -> String
             assert_eq!(settings.pairs(), pairs, "the width of the settings");
             "ok".to_string()
         }
-        "step" => {
+        "step" | "explain" => {
             let sample: Vec<u32> =
                 numbers(&words[1..]).iter().map(|&n| u32::try_from(n).expect("u32")).collect();
-            let answer = match step(board, settings, &sample) {
-                Ok(Report { status, bits, share, recovery, watts, vars }) => {
-                    let bits = binary(&bits);
-                    format!(
-                        "report {} {:09b} {} {} {} {}",
-                        status, bits, share, recovery, watts, vars
-                    )
-                }
-                Err(number) => format!("refused {}", number),
+            let answer = if words[0] == "step" {
+                step(board, settings, &sample).map(|report| report_words(&report))
+            } else {
+                step_explained(board, settings, &sample).map(|(report, rules)| {
+                    format!("{} {}", report_words(&report), rules_words(&rules))
+                })
             };
+            let answer = answer.unwrap_or_else(|number| format!("refused {}", number));
             let mut image = [0; IMAGE_SIZE];
             save(board, &mut image).expect("46 bytes hold an image");
             format!("{} {}", answer, hex(&image))
         }
+        "rules" => rules_words(&fresh_rules()),
         "save" => {
             let mut buffer = vec![0xAA; words[1].parse().expect("a size")];
             match save(board, &mut buffer) {
@@ -2519,6 +2677,585 @@ mod tests {
         }
     }
 
+    // --- the rules ---
+
+    fn rules(status: u8, limit: u8, watts: u8) -> Rules {
+        Rules { status, limit, watts }
+    }
+
+    /// Steps the board with the rules and without. Both must give the same report and record.
+    fn explained(board: &mut Board, settings: &Settings, sample: &[u32]) -> (Report, Rules) {
+        let mut other = *board;
+        let (report, rules) = step_explained(board, settings, sample).unwrap();
+        assert_eq!(step(&mut other, settings, sample), Ok(report));
+        assert_eq!(other, *board);
+        (report, rules)
+    }
+
+    /// The status of a step with the quick settings, and its rules.
+    fn quickly(board: &mut Board, sample: &[u32; 7]) -> (u8, Rules) {
+        let (report, rules) = explained(board, &quick_settings(), sample);
+        (report.status, rules)
+    }
+
+    #[test]
+    fn numbers_of_the_rules() {
+        let status = [
+            STATUS_BY_PERMISSION, STATUS_BY_LIMIT, STATUS_BY_WAIT, STATUS_BY_RETURN,
+            STATUS_BY_LOWEST, STATUS_BY_HIGHEST, STATUS_BY_FREQUENCY,
+        ];
+        assert_eq!(status, [1, 2, 3, 4, 5, 6, 7]);
+        let watts = [
+            WATTS_BY_STATUS, WATTS_BY_AVAILABLE, WATTS_BY_OPERATOR, WATTS_BY_SHARE,
+            WATTS_BY_CURVE, WATTS_BY_NAMEPLATE, WATTS_BY_RECOVERY,
+        ];
+        assert_eq!(watts, [1, 2, 3, 4, 5, 6, 7]);
+        assert_eq!(NO_LIMIT, 0);
+    }
+
+    #[test]
+    fn rules_of_a_fresh_board() {
+        assert_eq!(fresh_rules(), rules(3, 0, 1));
+        // Those of any step that leaves it tripped, too.
+        let (report, rules) = explained(&mut fresh(), &quick_settings(), &NO_PERMISSION);
+        assert_eq!((report, rules), (fresh_report(), fresh_rules()));
+    }
+
+    #[test]
+    fn rules_of_the_listing() {
+        let mut board = fresh();
+        let mut answers = Vec::new();
+        for line in LISTING_SAMPLES.lines() {
+            let sample = read_sample(line.as_bytes()).unwrap();
+            let answer = step_explained(&mut board, &quick_settings(), &sample);
+            answers.push(answer.map(|(_, rules)| rules));
+        }
+        let expected = [
+            Ok(rules(STATUS_BY_RETURN, 0, WATTS_BY_SHARE)),
+            Ok(rules(STATUS_BY_LOWEST, 0, WATTS_BY_SHARE)),
+            Ok(rules(STATUS_BY_HIGHEST, 0, WATTS_BY_STATUS)),
+            Err(4),
+            Ok(rules(STATUS_BY_PERMISSION, 0, WATTS_BY_STATUS)),
+        ];
+        assert_eq!(answers, expected);
+    }
+
+    #[test]
+    fn tripped_by_permission() {
+        // In every band, with and without completed limits beside it.
+        for status in ENTERING..=CEASE {
+            for counters in [[0; 9], [u32::MAX; 9]] {
+                for mut sample in [NORMAL, LOW_HERTZ, LOW_DIP, HIGH_SWELL, TOO_HIGH, [0; 7]] {
+                    sample[3] = sample[3].max(40000);
+                    sample[4] = 0;
+                    let mut board = Board { status, counters, ..in_service(100) };
+                    let expected = (TRIPPED, rules(STATUS_BY_PERMISSION, 0, WATTS_BY_STATUS));
+                    assert_eq!(quickly(&mut board, &sample), expected);
+                    // From the next step on it waits, with permission still 0.
+                    for _ in 0..3 {
+                        assert_eq!(quickly(&mut board, &sample), (TRIPPED, fresh_rules()));
+                    }
+                }
+            }
+        }
+    }
+
+    /// A board in service whose listed limits, by their index, lack one step.
+    fn all_but_one_step(settings: &Settings, limits: &[usize]) -> Board {
+        let mut board = in_service(100);
+        for &i in limits {
+            board.counters[i] = settings.trips[i].time - 1;
+        }
+        board
+    }
+
+    #[test]
+    fn tripped_by_each_limit_alone() {
+        let settings = quick_settings();
+        let broken = [
+            [1000, 774, 1000, 60000], [1000, 1000, 249, 60000], [1211, 1000, 1000, 60000],
+            [1000, 1000, 1441, 60000], [1000, 1000, 1000, 58499], [1000, 1000, 1000, 56499],
+            [1000, 1000, 1000, 61201], [1000, 1000, 1000, 62001],
+        ];
+        let names = ["uv1", "uv2", "ov1", "ov2", "uf1", "uf2", "of1", "of2"];
+        for (i, [a, b, c, frequency]) in broken.into_iter().enumerate() {
+            assert!(DEFAULT_SHEET.lines().nth(i).unwrap().contains(names[i]));
+            let sample = [a, b, c, frequency, 1, 10000, 10000];
+            let mut board = all_but_one_step(&settings, &[i]);
+            let place = i as u8 + 1;
+            let expected = (TRIPPED, rules(STATUS_BY_LIMIT, place, WATTS_BY_STATUS));
+            assert_eq!(quickly(&mut board, &sample), expected, "{}", names[i]);
+            // Its bit stays, but from the next step on the board waits.
+            let (report, rules) = explained(&mut board, &settings, &sample);
+            assert_eq!((report.status, report.bits[i], rules), (TRIPPED, true, fresh_rules()));
+            // Two steps short it does not trip.
+            let mut board = all_but_one_step(&settings, &[i]);
+            board.counters[i] -= 1;
+            let (status, rules) = quickly(&mut board, &sample);
+            assert_eq!((status != TRIPPED, rules.limit), (true, 0));
+        }
+    }
+
+    #[test]
+    fn tripped_by_the_first_of_several_limits() {
+        // All that can be broken at once, and every choice of those that are completed.
+        for (frequency, breakable) in [(40000, [0, 1, 2, 3, 4, 5]), (80000, [0, 1, 2, 3, 6, 7])] {
+            let sample = [1000, 4095, 0, frequency, 1, 10000, 10000];
+            for choice in 0..64 {
+                let chosen: Vec<usize> =
+                    (0..6).filter(|i| choice >> i & 1 == 1).map(|i| breakable[i]).collect();
+                let mut board = all_but_one_step(&quick_settings(), &chosen);
+                let expected = match chosen.first() {
+                    Some(&i) => (TRIPPED, rules(STATUS_BY_LIMIT, i as u8 + 1, WATTS_BY_STATUS)),
+                    None => (CEASE, rules(STATUS_BY_HIGHEST, 0, WATTS_BY_STATUS)),
+                };
+                assert_eq!(quickly(&mut board, &sample), expected, "{:?}", chosen);
+            }
+        }
+    }
+
+    #[test]
+    fn a_limit_is_completed_at_this_step_only() {
+        // Full counters of the record play no part where the limit is not broken now.
+        let full = Board { counters: [u32::MAX; 9], ..in_service(100) };
+        let expected = (CONTINUOUS, rules(STATUS_BY_LOWEST, 0, WATTS_BY_AVAILABLE));
+        assert_eq!(quickly(&mut full.clone(), &NORMAL), expected);
+        let expected = (TRIPPED, rules(STATUS_BY_LIMIT, 6, WATTS_BY_STATUS));
+        let mut settings = quick_settings();
+        settings.trips[4].limit = 50000;
+        let sample = [1000, 1000, 1000, 56000, 1, 10000, 10000]; // below uf2, not below uf1
+        let (report, rules) = explained(&mut full.clone(), &settings, &sample);
+        assert_eq!((report.status, rules), expected);
+    }
+
+    #[test]
+    fn tripped_since_an_earlier_step() {
+        // Unknown statuses are read as tripped. Whatever the sample, the wait is not full.
+        for status in [0, 6, 7, 128, 255] {
+            for counters in [[0; 9], [u32::MAX; 9]] {
+                for permission in [0, 1] {
+                    for mut sample in [NORMAL, LOW_HERTZ, LOW_DIP, HIGH_SWELL, TOO_HIGH] {
+                        if sample == NORMAL && permission == 1 {
+                            continue;
+                        }
+                        sample[4] = permission;
+                        let mut board = Board { status, counters, ..in_service(100) };
+                        assert_eq!(quickly(&mut board, &sample), (TRIPPED, fresh_rules()));
+                    }
+                }
+            }
+        }
+        // Also while it fills.
+        let settings = Settings { wait: 5, ..quick_settings() };
+        let mut board = fresh();
+        for k in 1..=4 {
+            let (report, rules) = explained(&mut board, &settings, &NORMAL);
+            assert_eq!((report.status, board.counters[8]), (TRIPPED, k));
+            assert_eq!(rules, fresh_rules());
+        }
+        let (report, returned) = explained(&mut board, &settings, &NORMAL);
+        assert_eq!(report.status, ENTERING);
+        assert_eq!(returned, rules(STATUS_BY_RETURN, 0, WATTS_BY_SHARE));
+    }
+
+    #[test]
+    fn returned_at_this_step() {
+        // The share is 0 then, and the rule for the watts unless available or limit is 0 too.
+        let powers = [
+            (10000, 10000, WATTS_BY_SHARE), (1, 1, WATTS_BY_SHARE),
+            (0, 10000, WATTS_BY_AVAILABLE), (10000, 0, WATTS_BY_OPERATOR),
+            (0, 0, WATTS_BY_AVAILABLE),
+        ];
+        for status in [0, 6, 255] {
+            for (available, limit, watts) in powers {
+                let mut board = Board { status, ..fresh() };
+                let sample = [1000, 1000, 1000, 60000, 1, available, limit];
+                let expected = (ENTERING, rules(STATUS_BY_RETURN, 0, watts));
+                assert_eq!(quickly(&mut board, &sample), expected);
+                // The next step is no return.
+                let (status, rules) = quickly(&mut board, &sample);
+                assert_eq!((status, rules.status), (ENTERING, STATUS_BY_LOWEST));
+            }
+        }
+        // Not before the wait is full, nor in service when it is.
+        let mut board = Board { counters: [1; 9], ..in_service(100) };
+        let (report, rules) = explained(&mut board, &quick_settings(), &NORMAL);
+        assert_eq!((report.bits[8], rules.status), (true, STATUS_BY_LOWEST));
+    }
+
+    #[test]
+    fn causes_of_the_band() {
+        // Lowest and highest code; the cause with a continuous frequency. Below 5000, 5000 to
+        // 8799, continuous, up to 12000, above.
+        let cases = [
+            (249, 249, MOMENTARY, STATUS_BY_LOWEST), (249, 774, MOMENTARY, STATUS_BY_LOWEST),
+            (249, 1000, MOMENTARY, STATUS_BY_LOWEST), (249, 1211, MOMENTARY, STATUS_BY_LOWEST),
+            (249, 1441, CEASE, STATUS_BY_HIGHEST), (774, 774, MANDATORY, STATUS_BY_LOWEST),
+            (774, 1000, MANDATORY, STATUS_BY_LOWEST), (774, 1211, MOMENTARY, STATUS_BY_HIGHEST),
+            (774, 1441, CEASE, STATUS_BY_HIGHEST), (1000, 1000, CONTINUOUS, STATUS_BY_LOWEST),
+            (1000, 1211, MOMENTARY, STATUS_BY_HIGHEST), (1000, 1441, CEASE, STATUS_BY_HIGHEST),
+            (1211, 1211, MOMENTARY, STATUS_BY_LOWEST), (1211, 1441, CEASE, STATUS_BY_HIGHEST),
+            (1441, 1441, CEASE, STATUS_BY_LOWEST),
+        ];
+        for (low, high, status, cause) in cases {
+            let orders = [
+                [low, low, high], [low, high, low], [high, low, low],
+                [low, high, high], [high, low, high], [high, high, low],
+            ];
+            for [a, b, c] in orders {
+                for frequency in [58800, 60000, 61200] {
+                    let sample = [a, b, c, frequency, 1, 10000, 10000];
+                    let (now, rules) = quickly(&mut in_service(100), &sample);
+                    assert_eq!((now, rules.status, rules.limit), (status, cause, 0));
+                }
+                // A mandatory frequency is the worst alone where all else is continuous.
+                for frequency in [40000, 58799, 61201, 80000] {
+                    let sample = [a, b, c, frequency, 1, 10000, 10000];
+                    let (now, rules) = quickly(&mut in_service(100), &sample);
+                    let expected = match status {
+                        CONTINUOUS => (MANDATORY, STATUS_BY_FREQUENCY, 0),
+                        _ => (status, cause, 0),
+                    };
+                    assert_eq!((now, rules.status, rules.limit), expected);
+                }
+            }
+        }
+        // The ramp is no cause.
+        for ramp in 0..=100 {
+            let (status, rules) = quickly(&mut in_service(ramp), &NORMAL);
+            assert_eq!(status, if ramp < 99 { ENTERING } else { CONTINUOUS });
+            assert_eq!(rules.status, STATUS_BY_LOWEST);
+        }
+    }
+
+    /// Six limits of watts, in the order of their rules: those chosen 5000, the others a little
+    /// more or, if `far`, 10000. Gives settings, record and sample, for this frequency.
+    fn six_limits(chosen: u32, far: bool, frequency: u32) -> (Settings, Board, [u32; 7]) {
+        let pick = |i: u32, exact: u32, near: u32, top: u32| match (chosen >> i & 1, far) {
+            (1, _) => exact,
+            (_, false) => near,
+            (_, true) => top,
+        };
+        let watt = pick(3, 5000, 5001, 10000) as i32;
+        let vars = pick(4, 8660, 8659, 0) as i32; // leave 5000, 5002 or 10000
+        let mut settings = quick_settings();
+        settings.watt = settings.watt.map(|point| Point { power: watt, ..point });
+        settings.var = settings.var.map(|point| Point { power: -vars, ..point });
+        // The ramp count grows in the continuous band only.
+        let growth = u32::from(band_of_frequency(frequency) == Band::Continuous);
+        let ramp = pick(2, 50, 51, 100) - growth;
+        let recovery = pick(5, 20, 21, 40) as u8 - 1;
+        let board = Board { recovery, ..in_service(ramp) };
+        let available = pick(0, 5000, 5001, 10000);
+        let limit = pick(1, 5000, 5001, 10000);
+        (settings, board, [1000, 1000, 1000, frequency, 1, available, limit])
+    }
+
+    #[test]
+    fn the_first_of_six_limits_that_equals_the_least() {
+        for chosen in 1..64 {
+            for far in [false, true] {
+                let causes = [(60000, STATUS_BY_LOWEST), (58799, STATUS_BY_FREQUENCY)];
+                for (frequency, cause) in causes {
+                    let (settings, mut board, sample) = six_limits(chosen, far, frequency);
+                    let (report, found) = explained(&mut board, &settings, &sample);
+                    assert_eq!(report.watts, 5000);
+                    let first = chosen.trailing_zeros() as u8;
+                    let expected = rules(cause, 0, WATTS_BY_AVAILABLE + first);
+                    assert_eq!(found, expected, "{:06b}", chosen);
+                }
+            }
+        }
+        // Nothing holds the watts down: all six are 10000.
+        let (settings, mut board, sample) = six_limits(0, true, 60000);
+        let (report, found) = explained(&mut board, &settings, &sample);
+        assert_eq!((report.status, report.watts), (CONTINUOUS, 10000));
+        assert_eq!(found, rules(STATUS_BY_LOWEST, 0, WATTS_BY_AVAILABLE));
+    }
+
+    #[test]
+    fn statuses_with_no_output() {
+        for available in [0, 5000, 10000] {
+            let cases = [
+                (LOW_DIP, MOMENTARY, STATUS_BY_LOWEST),
+                (HIGH_SWELL, MOMENTARY, STATUS_BY_HIGHEST),
+                (TOO_HIGH, CEASE, STATUS_BY_HIGHEST),
+                (NO_PERMISSION, TRIPPED, STATUS_BY_PERMISSION),
+            ];
+            for (mut sample, status, cause) in cases {
+                sample[5] = available;
+                sample[6] = 10000 - available;
+                let mut board = in_service(100);
+                let expected = (status, rules(cause, 0, WATTS_BY_STATUS));
+                assert_eq!(quickly(&mut board, &sample), expected);
+            }
+        }
+    }
+
+    #[test]
+    fn watts_of_0_in_statuses_with_output() {
+        let quick = quick_settings();
+        let no_watt =
+            Settings { watt: quick.watt.map(|point| Point { power: 0, ..point }), ..quick };
+        let no_room =
+            Settings { var: quick.var.map(|point| Point { power: 10000, ..point }), ..quick };
+        for (frequency, cause) in [(60000, STATUS_BY_LOWEST), (61201, STATUS_BY_FREQUENCY)] {
+            let cases = [
+                (quick, 0, 10000, WATTS_BY_AVAILABLE), (quick, 10000, 0, WATTS_BY_OPERATOR),
+                (quick, 0, 0, WATTS_BY_AVAILABLE), (no_watt, 10000, 10000, WATTS_BY_CURVE),
+                (no_room, 10000, 10000, WATTS_BY_NAMEPLATE), (no_watt, 10000, 0, WATTS_BY_OPERATOR),
+            ];
+            for (settings, available, limit, expected) in cases {
+                let sample = [1000, 1000, 1000, frequency, 1, available, limit];
+                let (report, found) = explained(&mut in_service(100), &settings, &sample);
+                assert_eq!((report.watts, found), (0, rules(cause, 0, expected)));
+            }
+        }
+        // A share of 0: the ramp is held in mandatory.
+        let (status, found) = quickly(&mut in_service(0), &LOW_HERTZ);
+        assert_eq!(status, MANDATORY);
+        assert_eq!(found, rules(STATUS_BY_FREQUENCY, 0, WATTS_BY_SHARE));
+        // And one that rounds to 0.
+        let settings = Settings { ramp: 100000, ..quick };
+        let (report, found) = explained(&mut in_service(8), &settings, &NORMAL);
+        assert_eq!((report.share, found.watts), (0, WATTS_BY_SHARE));
+    }
+
+    #[test]
+    fn the_curves_hold_the_watts_down() {
+        // 1180: 10862, the watt curve's 4760. 841: 9170, vars leave 8979. 1103: 10502, where
+        // vars of -2214 leave 9751. 700 and 1210: 8366 and 11000, in the mean 9244.
+        let cases = [
+            ([1180, 1180, 1180], CONTINUOUS, 4760, WATTS_BY_CURVE),
+            ([841, 841, 841], CONTINUOUS, 8979, WATTS_BY_NAMEPLATE),
+            ([1103, 1103, 1103], CONTINUOUS, 9751, WATTS_BY_NAMEPLATE),
+            ([700, 700, 1210], MANDATORY, 9130, WATTS_BY_NAMEPLATE),
+            ([1000, 1000, 1000], CONTINUOUS, 10000, WATTS_BY_AVAILABLE),
+        ];
+        for ([a, b, c], status, watts, rule) in cases {
+            let sample = [a, b, c, 60000, 1, 10000, 10000];
+            let (report, found) = explained(&mut in_service(100), &quick_settings(), &sample);
+            assert_eq!((report.status, report.watts, found.watts), (status, watts, rule));
+        }
+    }
+
+    #[test]
+    fn the_recovery_holds_the_watts_down() {
+        // Full ramp: for 39 steps; the fortieth has all six at 10000.
+        for stop in [LOW_DIP, HIGH_SWELL, TOO_HIGH] {
+            let mut board = in_service(100);
+            quickly(&mut board, &stop);
+            for k in 1..=45 {
+                let (_, rules) = quickly(&mut board, &NORMAL);
+                let expected = if k < 40 { WATTS_BY_RECOVERY } else { WATTS_BY_AVAILABLE };
+                assert_eq!(rules.watts, expected, "step {}", k);
+            }
+        }
+        // Beside the share, 3000 + 100 k against 250 k: equal at the twentieth step.
+        let mut board = in_service(30);
+        quickly(&mut board, &LOW_DIP);
+        for k in 1..=45 {
+            let (report, rules) = explained(&mut board, &quick_settings(), &NORMAL);
+            let expected = if k < 20 { WATTS_BY_RECOVERY } else { WATTS_BY_SHARE };
+            assert_eq!((report.status, rules.watts), (ENTERING, expected), "step {}", k);
+        }
+        // At a trip and at a return the count is full, and no rule.
+        let mut board = in_service(100);
+        quickly(&mut board, &TOO_HIGH);
+        assert_eq!(quickly(&mut board, &NO_PERMISSION).1.watts, WATTS_BY_STATUS);
+        for _ in 0..3 {
+            assert_eq!(quickly(&mut board, &NORMAL).1.watts, WATTS_BY_SHARE);
+        }
+    }
+
+    #[test]
+    fn rules_through_a_trip_and_a_return() {
+        let settings = Settings { wait: 3, ..quick_settings() };
+        let mut board = in_service(100);
+        let mut next = |sample: &[u32; 7]| explained(&mut board, &settings, sample).1;
+        assert_eq!(next(&NORMAL), rules(STATUS_BY_LOWEST, 0, WATTS_BY_AVAILABLE));
+        for _ in 1..=15 {
+            assert_eq!(next(&TOO_HIGH), rules(STATUS_BY_HIGHEST, 0, WATTS_BY_STATUS));
+        }
+        assert_eq!(next(&TOO_HIGH), rules(STATUS_BY_LIMIT, 4, WATTS_BY_STATUS));
+        for sample in [TOO_HIGH, LOW_DIP, NORMAL, NORMAL, NO_PERMISSION, NORMAL, NORMAL] {
+            assert_eq!(next(&sample), rules(STATUS_BY_WAIT, 0, WATTS_BY_STATUS));
+        }
+        assert_eq!(next(&NORMAL), rules(STATUS_BY_RETURN, 0, WATTS_BY_SHARE));
+        assert_eq!(next(&NORMAL), rules(STATUS_BY_LOWEST, 0, WATTS_BY_SHARE));
+        assert_eq!(next(&LOW_HERTZ), rules(STATUS_BY_FREQUENCY, 0, WATTS_BY_SHARE));
+        assert_eq!(next(&LOW_DIP), rules(STATUS_BY_LOWEST, 0, WATTS_BY_STATUS));
+        assert_eq!(next(&NO_PERMISSION), rules(STATUS_BY_PERMISSION, 0, WATTS_BY_STATUS));
+        assert_eq!(next(&NO_PERMISSION), rules(STATUS_BY_WAIT, 0, WATTS_BY_STATUS));
+    }
+
+    #[test]
+    fn a_refused_call_gives_no_rules() {
+        let wild = Board {
+            status: 200, counters: [u32::MAX; 9], ramp: u32::MAX, watts: u16::MAX, vars: i16::MIN,
+            recovery: u8::MAX,
+        };
+        let no_ramp = Settings { ramp: 0, ..quick_settings() };
+        let mut flat = quick_settings();
+        flat.watt[1] = flat.watt[0];
+        let good = quick_settings();
+        let refusals: [(&Settings, &[u32], u8); 10] = [
+            (&good, &[], 8), (&good, &[1000; 6], 8), (&good, &[1000; 8], 8),
+            (&good, &[4096, 0, 0, 39999, 2, 0, 0], 4), (&good, &[0, 0, 0, 39999, 2, 0, 0], 5),
+            (&good, &[0, 0, 0, 60000, 2, 10001, 0], 6), (&good, &[0, 0, 0, 60000, 0, 0, 10001], 7),
+            (&no_ramp, &NORMAL, 2), (&flat, &NORMAL, 3), (&flat, &[], 3),
+        ];
+        for (settings, sample, number) in refusals {
+            for before in [fresh(), wild, Board { recovery: 7, ..in_service(50) }] {
+                let mut board = before;
+                assert_eq!(step_explained(&mut board, settings, sample), Err(number));
+                assert_eq!(board, before);
+            }
+        }
+        // It is no step: the accepted one after it is the first after the trip.
+        let mut board = in_service(100);
+        assert_eq!(quickly(&mut board, &NO_PERMISSION).1.status, STATUS_BY_PERMISSION);
+        assert_eq!(step_explained(&mut board, &good, &[]), Err(8));
+        assert_eq!(quickly(&mut board, &NO_PERMISSION).1.status, STATUS_BY_WAIT);
+    }
+
+    #[test]
+    fn rules_of_wild_records() {
+        for status in ENTERING..=CEASE {
+            for (watts, vars) in [(0, 0), (u16::MAX, i16::MIN), (1, i16::MAX)] {
+                // Counts above their top are read as the top; watts and vars play no part.
+                let lent = Board { status, ramp: u32::MAX, recovery: 255, watts, vars, ..fresh() };
+                let expected = (CONTINUOUS, rules(STATUS_BY_LOWEST, 0, WATTS_BY_AVAILABLE));
+                assert_eq!(quickly(&mut lent.clone(), &NORMAL), expected);
+                let mut board = Board { recovery: 38, ..lent };
+                let expected = (CONTINUOUS, rules(STATUS_BY_LOWEST, 0, WATTS_BY_RECOVERY));
+                assert_eq!(quickly(&mut board, &NORMAL), expected);
+            }
+        }
+        // Which status of service the record names plays no part.
+        for sample in [NORMAL, LOW_HERTZ, LOW_DIP, HIGH_SWELL, TOO_HIGH, NO_PERMISSION] {
+            let entering = quickly(&mut in_service(70), &sample);
+            for status in ENTERING..=CEASE {
+                assert_eq!(quickly(&mut Board { status, ..in_service(70) }, &sample), entering);
+            }
+        }
+        for status in [0].into_iter().chain(6..=255) {
+            let lent = Board { status, ramp: 100, recovery: 0, ..fresh() };
+            let expected = (ENTERING, rules(STATUS_BY_RETURN, 0, WATTS_BY_SHARE));
+            assert_eq!(quickly(&mut lent.clone(), &NORMAL), expected);
+            assert_eq!(quickly(&mut lent.clone(), &NO_PERMISSION), (TRIPPED, fresh_rules()));
+        }
+    }
+
+    /// What the rules of an accepted step claim, checked from the other side.
+    fn claims_hold(before: &Board, settings: &Settings, sample: &[u32; 7], step: &(Report, Rules)) {
+        let (report, rules) = step;
+        let [a, b, c, frequency, permission, available, limit] = *sample;
+        let phases = [voltage(a), voltage(b), voltage(c)];
+        let tripped_before = before.status == TRIPPED || before.status > CEASE;
+        let tripped = report.status == TRIPPED;
+
+        let by_lowest = band_of_voltage(*phases.iter().min().unwrap());
+        let by_highest = band_of_voltage(*phases.iter().max().unwrap());
+        let by_frequency = band_of_frequency(frequency);
+        let causes = [by_lowest, by_highest, by_frequency];
+        match rules.status {
+            STATUS_BY_PERMISSION => assert!(!tripped_before && tripped && permission == 0),
+            STATUS_BY_LIMIT => {
+                assert!(!tripped_before && tripped && permission == 1);
+                let place = usize::from(rules.limit);
+                assert!(report.bits[place - 1] && !report.bits[..place - 1].contains(&true));
+            }
+            STATUS_BY_WAIT => assert!(tripped_before && tripped && !report.bits[8]),
+            STATUS_BY_RETURN => assert!(tripped_before && !tripped && report.bits[8]),
+            rule @ STATUS_BY_LOWEST..=STATUS_BY_FREQUENCY => {
+                assert!(!tripped_before && !tripped);
+                let i = usize::from(rule - STATUS_BY_LOWEST);
+                assert!(causes[..i].iter().all(|&cause| cause < causes[i]));
+                assert!(causes[i..].iter().all(|&cause| cause <= causes[i]));
+                let own = match report.status {
+                    ENTERING | CONTINUOUS => Band::Continuous,
+                    MANDATORY => Band::Mandatory,
+                    MOMENTARY => Band::Momentary,
+                    _ => Band::Cease,
+                };
+                assert_eq!(causes[i], own);
+            }
+            rule => panic!("no rule for the status: {}", rule),
+        }
+        assert_eq!(rules.limit > 0, rules.status == STATUS_BY_LIMIT);
+
+        let mean = phases.iter().sum::<u32>() / 3;
+        let six = [
+            i64::from(available), i64::from(limit), i64::from(report.share),
+            curve(&settings.watt, mean), watts_beside(curve(&settings.var, mean)),
+            250 * i64::from(report.recovery),
+        ];
+        let watts = i64::from(report.watts);
+        match rules.watts {
+            WATTS_BY_STATUS => assert!([0, 4, 5].contains(&report.status) && watts == 0),
+            rule @ WATTS_BY_AVAILABLE..=WATTS_BY_RECOVERY => {
+                assert!([1, 2, 3].contains(&report.status));
+                let i = usize::from(rule - WATTS_BY_AVAILABLE);
+                assert_eq!(six[i], watts);
+                assert!(six[..i].iter().all(|&other| other > watts));
+                assert!(six[i..].iter().all(|&other| other >= watts));
+            }
+            rule => panic!("no rule for the watts: {}", rule),
+        }
+    }
+
+    #[test]
+    fn rules_of_made_steps() {
+        let settings = quick_settings();
+        let codes =
+            [0, 249, 250, 700, 774, 775, 841, 1000, 1000, 1000, 1103, 1180, 1211, 1440, 1441];
+        let hertz = [40000, 56499, 58499, 58799, 59500, 60000, 60000, 60000, 61201, 62001, 80000];
+        let powers = [0, 250, 5000, 9751];
+        let mut by_status = [0; 8];
+        let mut by_limit = [0; 9];
+        let mut by_watts = [0; 8];
+        for seed in 0..20000 {
+            // A lent record, then some steps on it.
+            let bytes = made(seed, 100);
+            let mut bytes = bytes.iter().map(|&byte| usize::from(byte));
+            let mut byte = move || bytes.next().unwrap();
+            let mut board = Board {
+                status: (byte() % 8) as u8,
+                counters: std::array::from_fn(|i| match byte() % 8 {
+                    0 if i < 8 => settings.trips[i].time - 1,
+                    1 => u32::MAX,
+                    _ => 0,
+                }),
+                ramp: byte() as u32, // above 100 mostly
+                watts: 0,
+                vars: 0,
+                recovery: byte() as u8, // above 40 mostly
+            };
+            for _ in 0..8 {
+                // Mostly one code for all three phases, permission and full power.
+                let one = codes[byte() % codes.len()];
+                let mut code = || codes.get(byte() % 60).copied().unwrap_or(one);
+                let [a, b, c] = [code(), code(), code()];
+                let frequency = hertz[byte() % hertz.len()];
+                let permission = u32::from(byte() % 8 > 0);
+                let mut power = || powers.get(byte() % 20).copied().unwrap_or(10000);
+                let (available, limit) = (power(), power());
+                let sample = [a, b, c, frequency, permission, available, limit];
+                let before = board;
+                let answer = explained(&mut board, &settings, &sample);
+                claims_hold(&before, &settings, &sample, &answer);
+                by_status[usize::from(answer.1.status)] += 1;
+                by_limit[usize::from(answer.1.limit)] += 1;
+                by_watts[usize::from(answer.1.watts)] += 1;
+            }
+        }
+        // Every rule has come up.
+        assert!(by_status[0] == 0 && by_status[1..].iter().all(|&times| times > 50));
+        assert!(by_limit.iter().all(|&times| times > 50));
+        assert!(by_watts[0] == 0 && by_watts[1..].iter().all(|&times| times > 50));
+    }
+
     // --- calls ---
 
     #[test]
@@ -2633,5 +3370,69 @@ mod tests {
             let calls = format!("forward 46 {old}\nback 45 {old}28\n");
             assert_eq!(answers(&calls), format!("carried {old}28\ncarried {old}\n"));
         }
+    }
+
+    #[test]
+    fn calls_that_explain() {
+        let settings: String =
+            quick_settings().pairs().iter().map(|(a, b)| format!(" {} {}", a, b)).collect();
+        let calls = format!(
+            "rules\nsettings{settings}\nrules\nexplain 1000 1000 1000 60000 1 10000 10000\n\
+             explain 1000 1000 1000 60000 1 10000 10000\nrules\n\
+             explain 1000 1000 1441 60000 1 10000 10000\nexplain 4096 0 0 60000 1 10000 10000\n\
+             explain\nexplain 1000 1000 1000 60000 0 10000 10000\nfresh\nrules\n\
+             record 5 0 0 1299 15 0 0 0 0 0 100 0 0 7\n\
+             explain 1000 1441 1000 60000 1 10000 10000\nsave 46\n"
+        );
+        let counters = "00000000".repeat(8);
+        let entered = format!("01{counters}00000001000000000000000028");
+        let growing = format!("01{counters}00000001000000010064000028");
+        let ceased = "05000000000000000000000001000000010000000000000000000000000000000000000000\
+                      00000001".to_string() + "0000000000";
+        let tripped = format!("00{}28", "00".repeat(44));
+        let limited = format!("000000000000000000{:08x}{:08x}{}28", 1300, 16, "00".repeat(28));
+        let expected = format!(
+            "rules 3 0 1\nok\nrules 3 0 1\nreport 1 000000001 0 40 0 0 rules 4 0 4 {entered}\n\
+             report 1 000000001 100 40 100 0 rules 5 0 4 {growing}\nrules 3 0 1\n\
+             report 5 000000000 100 0 0 0 rules 6 0 1 {ceased}\nrefused 4 {ceased}\n\
+             refused 8 {ceased}\nreport 0 000000000 0 40 0 0 rules 1 0 1 {tripped}\nok\n\
+             rules 3 0 1\nok\nreport 0 001100000 0 40 0 0 rules 2 3 1 {limited}\nsaved {limited}\n"
+        );
+        assert_eq!(answers(&calls), expected);
+    }
+
+    #[test]
+    fn calls_that_explain_are_steps() {
+        // One history by `step` and by `explain`, with refused calls and `rules` in between.
+        let settings: String =
+            quick_settings().pairs().iter().map(|(a, b)| format!(" {} {}", a, b)).collect();
+        let others = [LOW_HERTZ, LOW_DIP, HIGH_SWELL, TOO_HIGH, NO_PERMISSION, [4096; 7], [0; 7]];
+        let mut steps = format!("settings{settings}\n");
+        let mut explains = steps.clone();
+        for choice in made(7, 2000) {
+            let sample = others.get(usize::from(choice) / 4).copied().unwrap_or(NORMAL);
+            let words: String = sample.iter().map(|number| format!(" {}", number)).collect();
+            steps += &format!("step{words}\n");
+            explains += &format!("rules\nexplain{words}\n");
+        }
+        let mut board = fresh();
+        let (steps, explains) = (answers(&steps), answers(&explains));
+        let mut explains = explains.lines();
+        let mut steps = steps.lines();
+        assert_eq!((steps.next(), explains.next()), (Some("ok"), Some("ok")));
+        for choice in made(7, 2000) {
+            let sample = others.get(usize::from(choice) / 4).copied().unwrap_or(NORMAL);
+            assert_eq!(explains.next(), Some("rules 3 0 1"));
+            let answer = steps.next().unwrap();
+            let expected = match step_explained(&mut board, &quick_settings(), &sample) {
+                Ok((_, Rules { status, limit, watts })) => {
+                    let (report, image) = answer.rsplit_once(' ').unwrap();
+                    format!("{report} rules {status} {limit} {watts} {image}")
+                }
+                Err(_) => answer.to_string(),
+            };
+            assert_eq!(explains.next(), Some(&expected[..]));
+        }
+        assert_eq!((steps.next(), explains.next()), (None, None));
     }
 }

@@ -3,8 +3,9 @@
  *     rt staticlib saltdelta              makes target/staticlib/libsaltdelta.a
  *     cc program.c -Iinclude target/staticlib/libsaltdelta.a
  *
- * Eight functions: a fresh board record and its report, reading a sheet of settings, one step of 10 ms, saving a record's image, carrying
- * an image over from the old firmware and back to it, replaying recorded samples. The library keeps nothing between calls and allocates
+ * Ten functions: a fresh board record and its report, reading a sheet of settings, one step of 10 ms, saving a record's image, carrying
+ * an image over from the old firmware and back to it, replaying recorded samples; and the fresh report and the step once more, with the rules that
+ * held status and watts. The library keeps nothing between calls and allocates
  * nothing; it needs memcpy and some 10 kB of stack. Any number may stand in what is lent, for there is an answer to each; the contracts in
  * crates/saltdelta/src/lib.rt say which, and that is proved. What the board does is docs/SPECIFICATION.md.
  *
@@ -34,7 +35,7 @@
  *   - every pointer points to memory of the size that its type and its count say, aligned for its type; none is NULL, not with a
  *     count of 0 either, and no memory is larger than PTRDIFF_MAX bytes;
  *   - the memory is initialised, also where the call writes: settings of saltdelta_read_sheet, the report of saltdelta_step and
- *     of saltdelta_replay, every buffer and target;
+ *     of saltdelta_replay, the explained report of saltdelta_step_explained, every buffer and target;
  *   - while the call runs, nobody else writes any of it or reads what the call writes (the pointers that are not to const), and what
  *     the call writes overlaps nothing else that is lent to the same call;
  *   - the structs are those below, and the compiler lays them out as the x86-64 System V ABI says.
@@ -148,6 +149,36 @@ typedef struct {
     int16_t vars;
 } saltdelta_report;
 
+/* The rule that held a status (spec 8.6). 0 is none of them, and a number keeps its rule in later versions, which may add others. */
+enum {
+    SALTDELTA_STATUS_BY_PERMISSION = 1, /* tripped at this step, permission being off */
+    SALTDELTA_STATUS_BY_LIMIT = 2,      /* tripped at this step by the limit that is named */
+    SALTDELTA_STATUS_BY_WAIT = 3,       /* tripped since an earlier step, or fresh: the return wait is not full */
+    SALTDELTA_STATUS_BY_RETURN = 4,     /* returned to service at this step */
+    SALTDELTA_STATUS_BY_LOWEST = 5,     /* in service: the lowest voltage decides the operating region, in continuous operation too (spec 8.7) */
+    SALTDELTA_STATUS_BY_HIGHEST = 6,    /* the highest voltage does */
+    SALTDELTA_STATUS_BY_FREQUENCY = 7   /* the frequency does */
+};
+
+/* The rule that held the watts (spec 8.8): the first, in the order of spec 7.5, that leaves what they are. Of these numbers the same holds. */
+enum {
+    SALTDELTA_WATTS_BY_STATUS = 1,    /* a status that gives no power: tripped, momentary cessation, cease to energize */
+    SALTDELTA_WATTS_BY_AVAILABLE = 2, /* available power; also where nothing holds the watts down */
+    SALTDELTA_WATTS_BY_OPERATOR = 3,  /* the operator's limit */
+    SALTDELTA_WATTS_BY_SHARE = 4,     /* the share of the ramp */
+    SALTDELTA_WATTS_BY_CURVE = 5,     /* the volt-watt curve */
+    SALTDELTA_WATTS_BY_NAMEPLATE = 6, /* the nameplate beside the vars */
+    SALTDELTA_WATTS_BY_RECOVERY = 7   /* the recovery after a cessation */
+};
+
+/* A report with the rules that held it. */
+typedef struct {
+    saltdelta_report report;
+    uint8_t status_rule; /* SALTDELTA_STATUS_BY_PERMISSION .. SALTDELTA_STATUS_BY_FREQUENCY */
+    uint8_t limit;       /* by a limit: its place in the sheet, from 1, so that SALTDELTA_UV1 + 1 is uv1's; else 0 */
+    uint8_t watts_rule;  /* SALTDELTA_WATTS_BY_STATUS .. SALTDELTA_WATTS_BY_RECOVERY */
+} saltdelta_explained;
+
 /* What reading a sheet answers. The part handed back is length bytes of the caller's own from start on: the refused line without its
  * line feed, or what follows an accepted sheet; empty, behind the last byte, where the refused line is missing (spec 3.9). */
 typedef struct {
@@ -169,6 +200,9 @@ saltdelta_board saltdelta_fresh(void);
 /* The report of a fresh board, before its first sample: tripped, with all bits, share, watts and vars 0, and recovery 40. */
 saltdelta_report saltdelta_fresh_report(void);
 
+/* The same with its rules: the wait and the status. */
+saltdelta_explained saltdelta_fresh_explained(void);
+
 /* Reads the sheet at the front of `length` lent bytes into `settings`. Bytes past its thirteenth line are not the sheet's. */
 saltdelta_sheet saltdelta_read_sheet(saltdelta_settings *settings, const uint8_t *bytes, size_t length);
 
@@ -177,6 +211,11 @@ saltdelta_sheet saltdelta_read_sheet(saltdelta_settings *settings, const uint8_t
  * again for 2 and 3. */
 uint32_t saltdelta_step(saltdelta_board *board, const saltdelta_settings *settings, const uint32_t *sample, size_t count,
                         saltdelta_report *report);
+
+/* The same step, answered and refused alike, with the same record and report; beside the report stand the rules that held it. Calls of
+ * saltdelta_step and of this may be mixed on one record. */
+uint32_t saltdelta_step_explained(saltdelta_board *board, const saltdelta_settings *settings, const uint32_t *sample, size_t count,
+                                  saltdelta_explained *explained);
 
 /* Saves the record's image in the first 46 of `length` lent bytes, high byte first: status (1 byte), the nine counters (4 each), ramp
  * count (4), watts (2), vars (2, two's complement), recovery (1), each as it is. The bytes after it are untouched. */

@@ -2,8 +2,9 @@
 # The library: libsaltdelta.a is made, proofs checked, and called from C and from Rust; both are held against the comparison program.
 # A pass is a case: a run of calls that all agree with it (a board's life, or up to some seven hundred calls), a sheet that C reads as the specification says, a
 # replay that is what its steps one by one are, an image that is what it was after it was carried over and back, or a refused call of C's that
-# writes no byte of what is lent to it, padding included. Rust's calls are held to that too. Each way in which the recovery count moves, and in which an
-# image is carried over or refused, is a case as well: reached a hundred times, from C and from Rust.
+# writes no byte of what is lent to it, padding included. Rust's calls are held to that too. Every other step is an explained one, on the same
+# record; further lent records are made for the rules alone. Each way in which the recovery count moves, in which a rule is named (each rule, each limit,
+# each pair of powers that tie), and in which an image is carried over or refused, is a case as well: reached a hundred times, from C and from Rust.
 set -u
 cd "$(dirname "$0")/.." || exit 2
 out=target/library
@@ -19,6 +20,9 @@ rustc -O --edition 2021 tests/library/check.rs -L target/staticlib -o "$out/chec
 "${CC:-cc}" -std=c99 -O2 -Wall -Wextra -Iinclude examples/carry.c target/staticlib/libsaltdelta.a -o "$out/carry" ||
     stop "examples/carry.c does not compile"
 
+"${CC:-cc}" -std=c99 -O2 -Wall -Wextra -Iinclude examples/why.c target/staticlib/libsaltdelta.a -o "$out/why" ||
+    stop "examples/why.c does not compile"
+
 passed=0
 failed=0
 # add FILE NAME: the file's last line is 'N passed, M failed'
@@ -33,7 +37,7 @@ add() {
 }
 
 "$out/check-c" "$out/calls" "$out/answers" > "$out/c-own.log" || echo "check-c ends with $?"
-add "$out/c-own.log" "C, sheets, refused calls, recoveries and images carried over"
+add "$out/c-own.log" "C, sheets, refused calls, recoveries, rules and images carried over"
 "$out/comparison" calls < "$out/calls" > "$out/expected"
 # a case is the calls from one `fresh` to the next
 paste -d '\t' "$out/calls" "$out/expected" "$out/answers" | awk -F '\t' '
@@ -64,8 +68,27 @@ carries 1 "refused 10" examples/new.image forward /dev/null
 carries 1 "refused 10" examples/carry.c back /dev/null
 carries 1 "refused 10" /dev/null forward /dev/null
 carries 2 "carry forward | carry back" examples/old.image over /dev/null
+# explains INPUT: examples/why.c says of each line the status and the watts, or the refusal, that `board` answers in the example's output
+explains() {
+    "$out/why" < "$1" > "$out/whys"
+    if [ -z "$(sed -n '13p' "$1")" ] || grep -q '^refused [0-9]* [0-9]*$' "$out/whys"; then
+        sed -n 's/^(\(refused [0-9]* [0-9]*\))$/\1/p' "${1%.in}.out" | cmp -s - "$out/whys"
+    else
+        sed -n -e 's/^(report \([a-z]*\) [01]* [0-9]* [0-9]* \([0-9]*\) -*[0-9]*)$/\1 \2/p' -e 's/^(\(refused [0-9]*\) [0-9]*)$/\1/p' "${1%.in}.out" > "$out/answered"
+        awk 'NR > 1 { if ($1 == "refused") print; else print $1, substr($0, 28, 5) + 0 }' "$out/whys" | cmp -s - "$out/answered"
+    fi
+}
+for input in examples/*.in; do
+    if explains "$input"; then
+        passed=$((passed + 1))
+    else
+        failed=$((failed + 1))
+        echo "examples/why.c: $input: other answers than board's"
+    fi
+done
+if "$out/why" < examples/trip-and-return.in | cmp -s - examples/trip-and-return.why; then passed=$((passed + 1)); else failed=$((failed + 1)); fi
 calls=$(sed -n 's/^calls: \([0-9]*\),.*/\1/p' "$out/c-calls.log" "$out/rust.log" | awk '{ n += $1 } END { print n + 0 }')
-if [ "$calls" -ge 450000 ]; then passed=$((passed + 1)); else failed=$((failed + 1)); fi
-echo "calls in all: $calls, at least 450000 asked"
+if [ "$calls" -ge 700000 ]; then passed=$((passed + 1)); else failed=$((failed + 1)); fi
+echo "calls in all: $calls, at least 700000 asked"
 echo "$passed passed, $failed failed"
 [ "$failed" -eq 0 ]

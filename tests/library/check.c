@@ -2,7 +2,8 @@
  * form of the comparison program's mode `calls`; tests/library.sh holds the answers against that program's. What that mode does not have
  * is checked here: the sheet of spec 3.3 and the refused lines of spec 11.1, that a replay is what its steps one by one are, that a
  * refused call writes no byte of what is lent to it, bytes of padding among them, that an image carried over and back is what it was, and
- * that the calls reach each way in which the recovery count moves and an image is carried or refused. It prints 'N passed, M failed' for these. */
+ * that the calls reach each way in which the recovery count moves, a rule is named and an image is carried or refused. Every other step is an
+ * explained one, on the same record. It prints 'N passed, M failed' for these. */
 #include <inttypes.h>
 #include <stdio.h>
 #include <string.h>
@@ -13,6 +14,15 @@ enum { RECOVERY_TOP = SALTDELTA_RECOVERY_TOP, REACHED_AT_LEAST = 100 };
 
 static FILE *calls, *answers;
 static int passed, failed;
+
+static void expect(int right, const char *what) {
+    if (right) {
+        passed++;
+    } else {
+        failed++;
+        printf("differs: %s\n", what);
+    }
+}
 
 /* ---- made numbers */
 
@@ -67,6 +77,148 @@ static void shown(uint8_t status, uint8_t recovery, const saltdelta_report *r) {
     reached[UNREAD] += !was && recovery != RECOVERY_TOP && full;
 }
 
+/* ---- what is reached of the rules */
+
+enum { STATUS_RULES = SALTDELTA_STATUS_BY_FREQUENCY, WATTS_RULES = SALTDELTA_WATTS_BY_RECOVERY, POWERS = 6 };
+
+/* By their numbers, and the limits by their places, from 1. */
+static const char *const status_rules[STATUS_RULES + 1] = {"", "permission", "a limit", "the wait", "a return", "lowest", "highest", "frequency"};
+static const char *const limits[9] = {"", "uv1", "uv2", "ov1", "ov2", "uf1", "uf2", "of1", "of2"};
+static const char *const watts_rules[WATTS_RULES + 1] = {
+    "", "the status", "available", "the operator", "the share", "the curve", "the nameplate", "the recovery"};
+
+/* Ways of naming a rule. The highest voltage is never named where the frequency is as bad: the frequency is at worst in mandatory operation, and
+ * where the highest voltage is there, low, the lowest is no better. */
+enum {
+    PERMISSION_LIMIT, PERMISSION_ALONE, WAIT_PERMISSION, WAIT_LIMIT, WAIT_NAMELESS, RETURN_NAMELESS, LOWEST_ENTERING, LOWEST_CONTINUOUS,
+    LOWEST_HIGHEST, LOWEST_FREQUENCY, HIGHEST_LOWEST, HIGHEST_FREQUENCY, STATUS_TRIPPED, STATUS_MOMENTARY, STATUS_CEASE, OTHER_0, NOTHING_HOLDS,
+    NAMINGS
+};
+static const char *const namings[NAMINGS] = {
+    "permission named, a limit complete too", "permission named, no limit complete", "the wait named, permission off",
+    "the wait named, a limit complete", "the wait named, status without a name", "a return, status without a name",
+    "lowest named in entering", "lowest named in continuous", "lowest named, highest as bad", "lowest named, frequency as bad",
+    "highest named, lowest bad but better", "highest named, frequency bad but better", "the status holds the watts in tripped",
+    "the status holds the watts in momentary", "the status holds the watts in cease", "another rule holds the watts at 0",
+    "nothing holds the watts down"};
+
+/* `ahead`: a limit named before another that is complete. `same_left`: at [i][k] the power i named where the later k leaves the same, at [i][i]
+ * where no other does. */
+static unsigned by_status[256], by_limit[256], ahead[256], by_watts[256], same_left[POWERS][POWERS], named[NAMINGS], refused_with[12];
+
+static uint32_t root(uint32_t square) {
+    uint32_t found = 0;
+    for (uint32_t bit = 1 << 15; bit > 0; bit >>= 1)
+        if ((found + bit) * (found + bit) <= square)
+            found += bit;
+    return found;
+}
+
+/* Regions as statuses: the worse, the higher. */
+static int region_of_code(uint32_t code) {
+    return code < 250 ? SALTDELTA_MOMENTARY : code < 775 ? SALTDELTA_MANDATORY : code < 1211 ? SALTDELTA_CONTINUOUS
+         : code < 1441 ? SALTDELTA_MOMENTARY : SALTDELTA_CEASE;
+}
+
+static int region_of_frequency(uint32_t hertz) {
+    return hertz >= 58800 && hertz <= 61200 ? SALTDELTA_CONTINUOUS : SALTDELTA_MANDATORY;
+}
+
+/* The volt-watt curve at the mean voltage. */
+static int32_t watt_curve(const saltdelta_settings *s, const uint32_t *sample) {
+    const int32_t mean = (int32_t)((root(sample[0] * 100000) + root(sample[1] * 100000) + root(sample[2] * 100000)) / 3);
+    const int32_t from = (int32_t)s->watt[0].volts, to = (int32_t)s->watt[1].volts;
+    if (mean <= from)
+        return s->watt[0].power;
+    if (mean >= to)
+        return s->watt[1].power;
+    return s->watt[0].power + (s->watt[1].power - s->watt[0].power) * (mean - from) / (to - from);
+}
+
+/* In a status that gives power: which of the six leave what the watts are. */
+static void powers_named(const saltdelta_settings *s, const uint32_t *sample, const saltdelta_explained *e) {
+    const saltdelta_report *r = &e->report;
+    const uint32_t vars = (uint32_t)(r->vars < 0 ? -r->vars : r->vars), nameplate = vars > 10000 ? 0 : root(100000000 - vars * vars);
+    const uint32_t left[POWERS] = {sample[5], sample[6], r->share, (uint32_t)watt_curve(s, sample), nameplate, 250 * (uint32_t)r->recovery};
+    const int first = e->watts_rule - SALTDELTA_WATTS_BY_AVAILABLE;
+    int same = 0;
+    if (first < 0 || first >= POWERS)
+        return;
+    for (int i = 0; i < POWERS; i++) {
+        same += left[i] == r->watts;
+        same_left[first][i] += i > first && left[i] == r->watts;
+    }
+    same_left[first][first] += same == 1;
+}
+
+/* Counts what an accepted explained step shows: the status lent to it, settings, sample, and what it wrote. */
+static void explained_shown(uint8_t status, const saltdelta_settings *s, const uint32_t *sample, const saltdelta_explained *e) {
+    const uint32_t *v = sample;
+    const int lowest = region_of_code(v[0] < v[1] && v[0] < v[2] ? v[0] : v[1] < v[2] ? v[1] : v[2]);
+    const int highest = region_of_code(v[0] > v[1] && v[0] > v[2] ? v[0] : v[1] > v[2] ? v[1] : v[2]);
+    const int frequency = region_of_frequency(v[3]), off = v[4] == 0, bad = SALTDELTA_CONTINUOUS + 1;
+    const int rule = e->status_rule, complete = e->report.bits >> 1 != 0, nameless = status > SALTDELTA_CEASE;
+    const int by_lowest = rule == SALTDELTA_STATUS_BY_LOWEST, by_highest = rule == SALTDELTA_STATUS_BY_HIGHEST;
+    const int gives = e->report.status >= SALTDELTA_ENTERING && e->report.status <= SALTDELTA_MANDATORY;
+    const int none = e->watts_rule == SALTDELTA_WATTS_BY_STATUS;
+    by_status[rule]++;
+    by_limit[e->limit]++;
+    if (e->limit <= 8)
+        ahead[e->limit] += (e->report.bits & ((1 << (9 - e->limit)) - 2)) != 0;
+    by_watts[e->watts_rule]++;
+    named[PERMISSION_LIMIT] += rule == SALTDELTA_STATUS_BY_PERMISSION && complete;
+    named[PERMISSION_ALONE] += rule == SALTDELTA_STATUS_BY_PERMISSION && !complete;
+    named[WAIT_PERMISSION] += rule == SALTDELTA_STATUS_BY_WAIT && off;
+    named[WAIT_LIMIT] += rule == SALTDELTA_STATUS_BY_WAIT && complete;
+    named[WAIT_NAMELESS] += rule == SALTDELTA_STATUS_BY_WAIT && nameless;
+    named[RETURN_NAMELESS] += rule == SALTDELTA_STATUS_BY_RETURN && nameless;
+    named[LOWEST_ENTERING] += by_lowest && e->report.status == SALTDELTA_ENTERING;
+    named[LOWEST_CONTINUOUS] += by_lowest && e->report.status == SALTDELTA_CONTINUOUS;
+    named[LOWEST_HIGHEST] += by_lowest && lowest >= bad && highest == lowest;
+    named[LOWEST_FREQUENCY] += by_lowest && lowest >= bad && frequency == lowest;
+    named[HIGHEST_LOWEST] += by_highest && lowest >= bad && lowest < highest;
+    named[HIGHEST_FREQUENCY] += by_highest && frequency >= bad && frequency < highest;
+    named[STATUS_TRIPPED] += none && e->report.status == SALTDELTA_TRIPPED;
+    named[STATUS_MOMENTARY] += none && e->report.status == SALTDELTA_MOMENTARY;
+    named[STATUS_CEASE] += none && e->report.status == SALTDELTA_CEASE;
+    named[OTHER_0] += gives && !none && e->report.watts == 0;
+    named[NOTHING_HOLDS] += gives && !none && e->report.watts == 10000;
+    if (gives)
+        powers_named(s, sample, e);
+}
+
+static void often(unsigned count, const char *what, const char *which, const char *beside) {
+    printf("%9u  %s%s%s\n", count, what, which, beside);
+    expect(count >= REACHED_AT_LEAST, which);
+}
+
+static void rules_reached(void) {
+    for (int i = 1; i <= STATUS_RULES; i++)
+        often(by_status[i], "status held by ", status_rules[i], "");
+    for (int i = 1; i <= 8; i++) {
+        often(by_limit[i], "limit named: ", limits[i], "");
+        /* uf2 and a limit of overfrequency are not broken at once, and behind of2 is none */
+        if (i != SALTDELTA_UF2 + 1 && i != SALTDELTA_OF2 + 1)
+            often(ahead[i], "limit named before another that is complete: ", limits[i], "");
+    }
+    for (int i = 1; i <= WATTS_RULES; i++)
+        often(by_watts[i], "watts held by ", watts_rules[i], "");
+    for (int i = 0; i < POWERS; i++)
+        for (int k = i; k < POWERS; k++) {
+            char beside[64] = "";
+            if (k > i)
+                sprintf(beside, ", the same left by %s", watts_rules[SALTDELTA_WATTS_BY_AVAILABLE + k]);
+            often(same_left[i][k], k > i ? "watts held by " : "watts held alone by ", watts_rules[SALTDELTA_WATTS_BY_AVAILABLE + i], beside);
+        }
+    for (int i = 0; i < NAMINGS; i++)
+        often(named[i], "rules: ", namings[i], "");
+    for (int i = SALTDELTA_RANGE; i <= SALTDELTA_SAMPLE; i++) {
+        char number[12];
+        sprintf(number, "%d", i);
+        often(refused_with[i], "explained step refused with ", number, "");
+    }
+}
+
 /* ---- calls and answers, a line each */
 
 static void put_bytes(const uint8_t *bytes, size_t length) {
@@ -103,21 +255,112 @@ static void give_settings(const saltdelta_settings *s) {
     fputs("ok\n", answers);
 }
 
-/* The report is that of the last accepted step. */
-static uint32_t step(saltdelta_board *b, const saltdelta_settings *s, const uint32_t *sample, size_t count, saltdelta_report *last) {
-    const uint8_t status = b->status, recovery = b->recovery;
-    saltdelta_report r = {77, 77, 77, 77, 77, -77};
-    uint8_t image[SALTDELTA_IMAGE] = {0};
-    uint32_t number = saltdelta_step(b, s, sample, count, &r);
-    fputs("step", calls);
+static void give_sample(const char *call, const uint32_t *sample, size_t count) {
+    fputs(call, calls);
     for (size_t i = 0; i < count; i++)
         fprintf(calls, " %" PRIu32, sample[i]);
     fputs("\n", calls);
+}
+
+static void put_report(const saltdelta_report *r) {
+    fprintf(answers, "report %u ", r->status);
+    for (int i = SALTDELTA_UV1; i <= SALTDELTA_READY; i++)
+        fputc(r->bits >> (8 - i) & 1 ? '1' : '0', answers);
+    fprintf(answers, " %u %u %u %d ", r->share, r->recovery, r->watts, r->vars);
+}
+
+static void put_rules(const saltdelta_explained *e) {
+    fprintf(answers, "rules %u %u %u", e->status_rule, e->limit, e->watts_rule);
+}
+
+/* The rules of a fresh board's report. */
+static void fresh_rules(void) {
+    const saltdelta_explained e = saltdelta_fresh_explained();
+    fputs("rules\n", calls);
+    put_rules(&e);
+    fputc('\n', answers);
+}
+
+/* What is lent to a step, with a pattern in every byte, those of padding too, and then fields of its own. The copies that are compared
+ * are made with memcpy, which copies padding; an assignment need not. */
+typedef struct {
+    saltdelta_board board;
+    saltdelta_settings settings;
+    saltdelta_report report;
+    saltdelta_explained explained;
+    uint32_t sample[9];
+} lent_step;
+
+/* In the fields of both reports stand numbers that no step writes. */
+static void fill(lent_step *lent, int pattern, const saltdelta_board *b, const saltdelta_settings *s, const uint32_t *sample, size_t count) {
+    const saltdelta_report r = {77, 77, 20077, 20077, 20077, -20077};
+    memset(lent, pattern, sizeof *lent);
+    lent->board.status = b->status;
+    lent->board.recovery = b->recovery;
+    memcpy(lent->board.counters, b->counters, sizeof b->counters);
+    lent->board.ramp = b->ramp;
+    lent->board.watts = b->watts;
+    lent->board.vars = b->vars;
+    memcpy(&lent->settings, s, sizeof *s);
+    lent->report = r;
+    lent->explained.report = r;
+    lent->explained.status_rule = 77;
+    lent->explained.limit = 77;
+    lent->explained.watts_rule = 77;
+    memcpy(lent->sample, sample, count * sizeof *sample);
+}
+
+/* Of what is lent to an explained step only record and explained report are written, and nothing if it is refused. */
+static int stays(const lent_step *was, const lent_step *is, uint32_t number) {
+    lent_step masked;
+    memcpy(&masked, is, sizeof masked);
     if (number == SALTDELTA_ACCEPTED) {
-        fprintf(answers, "report %u ", r.status);
-        for (int i = SALTDELTA_UV1; i <= SALTDELTA_READY; i++)
-            fputc(r.bits >> (8 - i) & 1 ? '1' : '0', answers);
-        fprintf(answers, " %u %u %u %d ", r.share, r.recovery, r.watts, r.vars);
+        memcpy(&masked.board, &was->board, sizeof masked.board);
+        memcpy(&masked.explained, &was->explained, sizeof masked.explained);
+    }
+    return memcmp(was, &masked, sizeof masked) == 0;
+}
+
+/* An explained step. The report is that of the last accepted one. */
+static uint32_t explain(saltdelta_board *b, const saltdelta_settings *s, const uint32_t *sample, size_t count, saltdelta_report *last) {
+    static unsigned made;
+    uint8_t image[SALTDELTA_IMAGE] = {0};
+    lent_step lent, was;
+    uint32_t number;
+    fill(&lent, (int)(made++ % 256), b, s, sample, count);
+    memcpy(&was, &lent, sizeof was);
+    number = saltdelta_step_explained(&lent.board, &lent.settings, lent.sample, count, &lent.explained);
+    give_sample("explain", sample, count);
+    if (number == SALTDELTA_ACCEPTED) {
+        put_report(&lent.explained.report);
+        put_rules(&lent.explained);
+        shown(b->status, b->recovery, &lent.explained.report);
+        explained_shown(b->status, s, sample, &lent.explained);
+        *last = lent.explained.report;
+    } else {
+        fprintf(answers, "refused %" PRIu32, number);
+        refused_with[number % 12]++;
+    }
+    fputs(stays(&was, &lent, number) ? " " : " with other bytes ", answers);
+    *b = lent.board;
+    saltdelta_save(b, image, sizeof image);
+    put_bytes(image, sizeof image);
+    return number;
+}
+
+/* A step, every other time an explained one. The report is that of the last accepted step. */
+static uint32_t step(saltdelta_board *b, const saltdelta_settings *s, const uint32_t *sample, size_t count, saltdelta_report *last) {
+    static unsigned made;
+    const uint8_t status = b->status, recovery = b->recovery;
+    saltdelta_report r = {77, 77, 77, 77, 77, -77};
+    uint8_t image[SALTDELTA_IMAGE] = {0};
+    uint32_t number;
+    if (made++ % 2 == 0)
+        return explain(b, s, sample, count, last);
+    number = saltdelta_step(b, s, sample, count, &r);
+    give_sample("step", sample, count);
+    if (number == SALTDELTA_ACCEPTED) {
+        put_report(&r);
         shown(status, recovery, &r);
     } else if (r.status == 77 && r.bits == 77 && r.share == 77 && r.recovery == 77 && r.watts == 77 && r.vars == -77) {
         fprintf(answers, "refused %" PRIu32 " ", number);
@@ -158,15 +401,6 @@ static size_t write_sheet(char *text, size_t at, const char *line) {
     for (size_t i = 0; i < 13; i++)
         length += (size_t)sprintf(text + length, "%s\n", i + 1 == at ? line : sheet_lines[i]);
     return length;
-}
-
-static void expect(int right, const char *what) {
-    if (right) {
-        passed++;
-    } else {
-        failed++;
-        printf("differs: %s\n", what);
-    }
 }
 
 /* Line `at` is refused with `number`, handed back whole, and every byte of the settings and of the sheet stays. */
@@ -228,40 +462,21 @@ static saltdelta_settings settings_of_sheet(void) {
     return s;
 }
 
-/* What is lent to a step, with a pattern in every byte, those of padding too, and then fields of its own. The copies that are compared
- * are made with memcpy, which copies padding; an assignment need not. */
-typedef struct {
-    saltdelta_board board;
-    saltdelta_settings settings;
-    saltdelta_report report;
-    uint32_t sample[9];
-} lent_step;
-
-static void fill(lent_step *lent, int pattern, const saltdelta_settings *s) {
-    memset(lent, pattern, sizeof *lent);
-    lent->board.status = SALTDELTA_CONTINUOUS;
-    for (int i = 0; i < 9; i++)
-        lent->board.counters[i] = (uint32_t)i;
-    lent->board.ramp = 100;
-    lent->board.watts = 5000;
-    lent->board.vars = -5;
-    lent->board.recovery = 7;
-    lent->report.status = 77;
-    lent->report.bits = 77;
-    lent->report.share = 77;
-    lent->report.recovery = 77;
-    lent->report.watts = 77;
-    lent->report.vars = -77;
-    memcpy(&lent->settings, s, sizeof *s);
-    memcpy(lent->sample, steady, sizeof steady);
+static void fill_steady(lent_step *lent, int pattern, const saltdelta_settings *s) {
+    const saltdelta_board b = {
+        .status = SALTDELTA_CONTINUOUS, .recovery = 7, .counters = {0, 1, 2, 3, 4, 5, 6, 7, 8}, .ramp = 100, .watts = 5000, .vars = -5};
+    fill(lent, pattern, &b, s, steady, 7);
 }
 
-/* A step that is refused with `number` writes no byte; one that is not refused (number 0) writes the report. */
+/* A step that is refused with `number` writes no byte; one that is not refused (number 0) writes the report. An explained one likewise. */
 static void step_refused(lent_step *lent, size_t count, uint32_t number, const char *what) {
     lent_step before;
     uint32_t found;
     memcpy(&before, lent, sizeof before);
     found = saltdelta_step(&lent->board, &lent->settings, lent->sample, count, &lent->report);
+    expect(found == number && (memcmp(&before, lent, sizeof before) == 0) == (number != SALTDELTA_ACCEPTED), what);
+    memcpy(&before, lent, sizeof before);
+    found = saltdelta_step_explained(&lent->board, &lent->settings, lent->sample, count, &lent->explained);
     expect(found == number && (memcmp(&before, lent, sizeof before) == 0) == (number != SALTDELTA_ACCEPTED), what);
 }
 
@@ -269,37 +484,37 @@ static void steps_refused(void) {
     const saltdelta_settings s = settings_of_sheet();
     for (int pattern = 0; pattern < 256; pattern += 85) {
         lent_step lent;
-        fill(&lent, pattern, &s);
+        fill_steady(&lent, pattern, &s);
         step_refused(&lent, 7, SALTDELTA_ACCEPTED, "a step that is accepted");
         for (int i = 0; i < 8; i++) {
-            fill(&lent, pattern, &s);
+            fill_steady(&lent, pattern, &s);
             lent.settings.trip[i].clearing = 100001;
             step_refused(&lent, 7, SALTDELTA_RANGE, "a clearing time out of range");
         }
-        fill(&lent, pattern, &s);
+        fill_steady(&lent, pattern, &s);
         lent.settings.var[3].volts = lent.settings.var[2].volts;
         step_refused(&lent, 7, SALTDELTA_RISE, "voltages that do not rise");
         for (size_t count = 0; count < 10; count++) {
-            fill(&lent, pattern, &s);
+            fill_steady(&lent, pattern, &s);
             if (count != 7)
                 step_refused(&lent, count, SALTDELTA_SAMPLE, "another count than seven");
         }
         for (int i = 0; i < 3; i++) {
-            fill(&lent, pattern, &s);
+            fill_steady(&lent, pattern, &s);
             lent.sample[i] = 4096;
             step_refused(&lent, 7, SALTDELTA_CODE, "a code above 4095");
         }
-        fill(&lent, pattern, &s);
+        fill_steady(&lent, pattern, &s);
         lent.sample[3] = 39999;
         step_refused(&lent, 7, SALTDELTA_FREQUENCY, "a frequency under 40000");
-        fill(&lent, pattern, &s);
+        fill_steady(&lent, pattern, &s);
         lent.sample[3] = 80001;
         step_refused(&lent, 7, SALTDELTA_FREQUENCY, "a frequency over 80000");
-        fill(&lent, pattern, &s);
+        fill_steady(&lent, pattern, &s);
         lent.sample[4] = 2;
         step_refused(&lent, 7, SALTDELTA_PERMISSION, "a permission of 2");
         for (int i = 5; i < 7; i++) {
-            fill(&lent, pattern, &s);
+            fill_steady(&lent, pattern, &s);
             lent.sample[i] = 10001;
             step_refused(&lent, 7, SALTDELTA_POWER, "a power above 10000");
         }
@@ -413,6 +628,175 @@ static void steps(saltdelta_board *b, const saltdelta_settings *s, int dip, uint
         sample[within(0, 2)] = edges[within(0, 7)];
     while (times-- > 0)
         step(b, s, sample, 7, &report);
+}
+
+/* ---- records for the rules */
+
+/* Curves of any height, rising in voltage, steep ones among them. */
+static void any_curves(saltdelta_settings *s) {
+    uint32_t volts = within(7000, 8500);
+    for (int i = 0; i < 4; i++, volts += within(1, 1500)) {
+        s->var[i].volts = volts;
+        s->var[i].power = one_in(3) ? (one_in(2) ? 10000 : -10000) : (int32_t)within(0, 20000) - 10000;
+    }
+    s->watt[0].volts = within(10000, 11000);
+    s->watt[1].volts = s->watt[0].volts + within(1, 1000);
+    for (int i = 0; i < 2; i++)
+        s->watt[i].power = one_in(3) ? 10000 : (int32_t)within(0, 10000);
+}
+
+/* Accepted settings, the trip levels mostly those nearest to nominal and the clearing times the shortest; a wait of 0 to 3. */
+static saltdelta_settings rule_settings(void) {
+    static const saltdelta_limit near[8] = {
+        {8800, 2100}, {5000, 200}, {11000, 100}, {12000, 16}, {59000, 18000}, {57000, 16}, {61000, 18000}, {61800, 16}};
+    static const saltdelta_limit far[8] = {
+        {0, 5000}, {0, 2100}, {12000, 1300}, {12000, 16}, {50000, 100000}, {50000, 100000}, {66000, 100000}, {66000, 100000}};
+    saltdelta_settings s = settings_of_sheet();
+    for (int i = 0; i < 8; i++) {
+        const uint32_t low = near[i].level < far[i].level ? near[i].level : far[i].level;
+        s.trip[i].level = one_in(6) ? within(low, near[i].level + far[i].level - low) : near[i].level;
+        s.trip[i].clearing = one_in(6) ? within(near[i].clearing, far[i].clearing) : near[i].clearing;
+    }
+    s.wait = within(0, 3);
+    s.ramp = within(100, 110);
+    if (one_in(2))
+        any_curves(&s);
+    return s;
+}
+
+/* A record of any status whose counters are full, full after this step, one short of that, or low. */
+static saltdelta_board rule_record(const saltdelta_settings *s) {
+    saltdelta_board b = any_record();
+    b.status = (uint8_t)(one_in(8) ? within(6, 255) : within(0, 5));
+    for (int i = 0; i < 9; i++) {
+        const uint32_t top = i < 8 ? s->trip[i].clearing : s->wait > 1 ? s->wait : 1, kind = within(0, 7);
+        b.counters[i] = kind < 2 ? top - 1 : kind < 3 ? top : kind < 4 ? UINT32_MAX : kind < 5 && top > 1 ? top - 2 : within(0, 13);
+    }
+    b.ramp = one_in(2) ? s->ramp - within(0, 1) : within(0, s->ramp);
+    return b;
+}
+
+/* Codes at the edges of regions, of limits and of entering service. */
+static uint32_t edge(void) {
+    static const uint32_t edges[12] = {0, 249, 250, 774, 775, 841, 1000, 1210, 1211, 1440, 1441, 4095};
+    return edges[within(0, 11)];
+}
+
+/* One code on all phases or most, one frequency, permission mostly, powers of a few kinds. */
+static void rule_sample(uint32_t *sample) {
+    static const uint32_t hertz[16] = {
+        40000, 49999, 56999, 57000, 58799, 58800, 58999, 59000, 61000, 61001, 61200, 61201, 61800, 61801, 66001, 80000};
+    const uint32_t most = one_in(2) ? 1000 : edge();
+    for (int i = 0; i < 3; i++)
+        sample[i] = one_in(4) ? edge() : most;
+    sample[3] = one_in(2) ? 60000 : hertz[within(0, 15)];
+    sample[4] = !one_in(4);
+    for (int i = 5; i < 7; i++)
+        sample[i] = one_in(4) ? 0 : one_in(3) ? 10000 : within(0, 10000);
+}
+
+/* An explained step of a lent record, and one more step, explained or not, with the same sample. */
+static void two_steps(saltdelta_board b, const saltdelta_settings *s, const uint32_t *sample) {
+    saltdelta_report report;
+    give_record(&b);
+    explain(&b, s, sample, 7, &report);
+    step(&b, s, sample, 7, &report);
+}
+
+/* Lent records that trip, wait, return or stay in service, several limits and regions at once. */
+static void status_steps(void) {
+    for (int i = 0; i < 6000; i++) {
+        const saltdelta_settings s = rule_settings();
+        if (i % 10 == 0)
+            anew();
+        give_settings(&s);
+        for (int k = 0; k < 4; k++) {
+            uint32_t sample[7];
+            rule_sample(sample);
+            two_steps(rule_record(&s), &s, sample);
+        }
+    }
+}
+
+/* Explained steps that are refused, for one cause or several. */
+static void refused_explained(void) {
+    for (int i = 0; i < 3000; i++) {
+        saltdelta_settings s = rule_settings();
+        saltdelta_board b = rule_record(&s);
+        saltdelta_report report;
+        uint32_t sample[9] = {0}, causes = 1u << within(0, 6), count = 7;
+        if (one_in(2))
+            causes |= 1u << within(0, 6);
+        if (i % 20 == 0)
+            anew();
+        rule_sample(sample);
+        if (causes & 1)
+            s.trip[within(0, 7)].clearing = 100001;
+        if (causes & 2)
+            s.watt[1].volts = s.watt[0].volts;
+        if (causes & 4)
+            count = one_in(2) ? within(0, 6) : within(8, 9);
+        if (causes & 8)
+            sample[within(0, 2)] = within(4096, 5000);
+        if (causes & 16)
+            sample[3] = one_in(2) ? 39999 : 80001;
+        if (causes & 32)
+            sample[4] = within(2, 100);
+        if (causes & 64)
+            sample[within(5, 6)] = within(10001, 20000);
+        give_settings(&s);
+        give_record(&b);
+        explain(&b, &s, sample, count, &report);
+    }
+}
+
+/* What holds the watts: one of the six leaves `least`, those before it more, those behind it the same or more. A nameplate and a recovery
+ * of just so much are not always to be had: then they leave somewhat more. */
+static void six_powers(uint32_t *left) {
+    const uint32_t kind = within(0, 7), least = kind == 0 ? 0 : kind == 1 ? 10000 : kind < 4 ? within(0, 10000) : 250 * within(29, 39);
+    const int first = (int)within(0, POWERS - 1);
+    for (int i = 0; i < POWERS; i++) {
+        if (i < first && least < 10000)
+            left[i] = one_in(3) ? 10000 : within(least + 1, 10000);
+        else
+            left[i] = i == first || one_in(2) ? least : within(least, 10000);
+    }
+}
+
+/* Lent records in service, in continuous and mandatory operation, under settings in which the six leave these powers. */
+static void watts_steps(void) {
+    static const uint32_t grid[5][2] = {{1000, 60000}, {900, 60000}, {1150, 60000}, {700, 60000}, {1000, 58500}};
+    static const uint32_t ramps[3] = {100, 10000, 100000};
+    for (int i = 0; i < 10000; i++) {
+        saltdelta_settings s = rule_settings();
+        saltdelta_board b = any_record();
+        uint32_t left[POWERS], at = within(0, 4), ramp, sample[7];
+        int32_t vars;
+        if (i % 20 == 0)
+            anew();
+        six_powers(left);
+        s.ramp = ramps[within(0, 2)];
+        vars = (int32_t)root(100000000 - left[4] * left[4]);
+        for (int k = 0; k < 4; k++)
+            s.var[k].power = left[4] % 2 == 0 ? vars : -vars;
+        s.watt[0].power = (int32_t)left[3];
+        if (one_in(2))
+            s.watt[1].power = (int32_t)left[3];
+        ramp = (uint32_t)(((uint64_t)left[2] * s.ramp + 9999) / 10000);
+        b.status = (uint8_t)within(SALTDELTA_ENTERING, SALTDELTA_CEASE);
+        for (int k = 0; k < 9; k++)
+            b.counters[k] = within(0, 11);
+        b.ramp = ramp > 0 && at < 3 ? ramp - 1 : ramp;
+        b.recovery = (uint8_t)(left[5] > 0 ? (left[5] + 249) / 250 - 1 : 0);
+        for (int k = 0; k < 3; k++)
+            sample[k] = grid[at][0];
+        sample[3] = grid[at][1];
+        sample[4] = 1;
+        sample[5] = left[0];
+        sample[6] = left[1];
+        give_settings(&s);
+        two_steps(b, &s, sample);
+    }
 }
 
 /* Boards from fresh, up the ramp and on, with dips; then records in which only the counters are low, so that few of them trip. */
@@ -603,9 +987,13 @@ static void round_trips(void) {
 /* 0 and RECOVERY_TOP, in the record as its image shows it, and in the report. */
 static void fresh(void) {
     const saltdelta_report r = saltdelta_fresh_report(), first = {.status = SALTDELTA_TRIPPED, .recovery = RECOVERY_TOP};
+    const saltdelta_explained e = saltdelta_fresh_explained();
     const saltdelta_board b = saltdelta_fresh();
     uint8_t image[SALTDELTA_IMAGE] = {0}, zeros[SALTDELTA_IMAGE] = {0};
     expect(same_report(&r, &first), "the report of a fresh board");
+    expect(same_report(&e.report, &first) && e.status_rule == SALTDELTA_STATUS_BY_WAIT && e.limit == 0
+               && e.watts_rule == SALTDELTA_WATTS_BY_STATUS,
+           "the explained report of a fresh board");
     expect(saltdelta_save(&b, image, sizeof image) == SALTDELTA_ACCEPTED && memcmp(image, zeros, SALTDELTA_IMAGE - 1) == 0
                && image[SALTDELTA_IMAGE - 1] == RECOVERY_TOP,
            "the image of a fresh board");
@@ -625,6 +1013,7 @@ int main(int argc, char **argv) {
         saltdelta_board b = saltdelta_fresh();
         saltdelta_settings s = settings_read();
         anew();
+        fresh_rules();
         save(&b, within(SALTDELTA_IMAGE, 60));
         give_settings(&s);
         for (int k = 0; k < 20; k++)
@@ -641,6 +1030,9 @@ int main(int argc, char **argv) {
             step(&b, &s, sample, any_sample(sample), &report);
     }
     recoveries();
+    status_steps();
+    watts_steps();
+    refused_explained();
     for (size_t count = 0; count <= 350; count++)
         replay(count);
     carries();
@@ -652,6 +1044,7 @@ int main(int argc, char **argv) {
         printf("%9u  %s\n", reached[i], ways[i]);
         expect(reached[i] >= REACHED_AT_LEAST, ways[i]);
     }
+    rules_reached();
     printf("%d passed, %d failed\n", passed, failed);
     return failed != 0;
 }

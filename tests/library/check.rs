@@ -1,8 +1,9 @@
 //! The library from Rust: target/staticlib/libsaltdelta.a against the comparison program, the same calls to both.
 //!
 //! Every call's number, and all memory lent to it, refused calls' too, must be the comparison program's; of what is lent to a refused
-//! call every byte must stay, those of padding too. An image carried over and back must be what it was. The calls are made from fixed seeds. The last line is 'N passed, M failed', in cases:
-//! some calls each, up to some seven hundred, which all agree or not.
+//! call every byte must stay, those of padding too. An image carried over and back must be what it was. Every other step is an explained one,
+//! on the same record. The calls are made from fixed seeds. The last line is 'N passed, M failed', in cases: some calls each, up to some
+//! seven hundred, which all agree or not, or something that is to be reached a hundred times.
 
 #[allow(dead_code)]
 #[path = "../../comparison/board.rs"]
@@ -10,7 +11,7 @@ mod comparison;
 mod library;
 
 use comparison as other;
-use library::{Board, Limit, Point, Replayed, Report, Settings, Sheet, Span};
+use library::{Board, Explained, Limit, Point, Replayed, Report, Settings, Sheet, Span};
 use std::marker::PhantomData;
 use std::mem::size_of;
 use std::ptr::addr_of_mut;
@@ -271,9 +272,13 @@ fn report_of(r: &other::Report) -> Report {
     Report { status: r.status, bits, share: r.share, recovery: r.recovery, watts: r.watts, vars: r.vars }
 }
 
+fn explained_of(r: &other::Report, rules: &other::Rules) -> Explained {
+    Explained { report: report_of(r), status_rule: rules.status, limit: rules.limit, watts_rule: rules.watts }
+}
+
 // ---- memory that is lent byte for byte
 
-/// Room for a T, aligned to 8, with a pattern in every byte before its fields are written: bytes of padding keep the pattern.
+/// Room for a T and a word behind it, aligned to 8, with a pattern in every byte before its fields are written: bytes of padding keep the pattern.
 struct Lent<T> {
     words: Vec<u64>,
     of: PhantomData<T>,
@@ -282,7 +287,7 @@ struct Lent<T> {
 impl<T> Lent<T> {
     /// `put` writes the fields, one by one where T has padding.
     fn new(pattern: u8, put: impl FnOnce(*mut T)) -> Lent<T> {
-        let words = vec![u64::from_ne_bytes([pattern; 8]); size_of::<T>().div_ceil(8)];
+        let words = vec![u64::from_ne_bytes([pattern; 8]); size_of::<T>().div_ceil(8) + 1];
         let mut lent = Lent { words, of: PhantomData };
         put(lent.words.as_mut_ptr().cast());
         lent
@@ -294,6 +299,12 @@ impl<T> Lent<T> {
 
     fn bytes(&self) -> Vec<u8> {
         unsafe { std::slice::from_raw_parts(self.words.as_ptr().cast(), size_of::<T>()) }.to_vec()
+    }
+
+    /// Bytes that are not lent.
+    fn behind(&self) -> Vec<u8> {
+        let all: &[u8] = unsafe { std::slice::from_raw_parts(self.words.as_ptr().cast(), 8 * self.words.len()) };
+        all[size_of::<T>()..].to_vec()
     }
 }
 
@@ -316,6 +327,16 @@ fn lent_report(pattern: u8, r: &Report) -> Lent<Report> {
         addr_of_mut!((*p).recovery).write(r.recovery);
         addr_of_mut!((*p).watts).write(r.watts);
         addr_of_mut!((*p).vars).write(r.vars);
+    })
+}
+
+fn lent_explained(pattern: u8, e: &Explained) -> Lent<Explained> {
+    let report = lent_report(pattern, &e.report).bytes();
+    Lent::new(pattern, |p: *mut Explained| unsafe {
+        p.cast::<u8>().copy_from_nonoverlapping(report.as_ptr(), report.len());
+        addr_of_mut!((*p).status_rule).write(e.status_rule);
+        addr_of_mut!((*p).limit).write(e.limit);
+        addr_of_mut!((*p).watts_rule).write(e.watts_rule);
     })
 }
 
@@ -384,6 +405,202 @@ const RECOVERIES: [(&str, fn(&Board, &Report) -> bool); 14] = [
 const FROM_FRESH: usize = 9;
 const REACHED_AT_LEAST: u64 = 100;
 
+// ---- what is reached of the rules
+
+/// The rules in the order of their numbers, from 1, and the limits in sheet order.
+const STATUS_RULES: [(u8, &str); 7] = [
+    (library::STATUS_BY_PERMISSION, "permission"),
+    (library::STATUS_BY_LIMIT, "a limit"),
+    (library::STATUS_BY_WAIT, "the wait"),
+    (library::STATUS_BY_RETURN, "a return"),
+    (library::STATUS_BY_LOWEST, "lowest"),
+    (library::STATUS_BY_HIGHEST, "highest"),
+    (library::STATUS_BY_FREQUENCY, "frequency"),
+];
+const LIMITS: [&str; 8] = ["uv1", "uv2", "ov1", "ov2", "uf1", "uf2", "of1", "of2"];
+const WATTS_RULES: [(u8, &str); 7] = [
+    (library::WATTS_BY_STATUS, "the status"),
+    (library::WATTS_BY_AVAILABLE, "available"),
+    (library::WATTS_BY_OPERATOR, "the operator"),
+    (library::WATTS_BY_SHARE, "the share"),
+    (library::WATTS_BY_CURVE, "the curve"),
+    (library::WATTS_BY_NAMEPLATE, "the nameplate"),
+    (library::WATTS_BY_RECOVERY, "the recovery"),
+];
+
+/// An explained step: what was lent to it and what came of it. What the report does not show is worked out here, only to be counted.
+struct Explaining<'a> {
+    lent: &'a Board,
+    settings: &'a Settings,
+    sample: &'a [u32],
+    now: &'a Explained,
+}
+
+impl Explaining<'_> {
+    fn named(&self, rule: u8) -> bool {
+        self.now.status_rule == rule
+    }
+
+    fn permitted(&self) -> bool {
+        self.sample[4] == 1
+    }
+
+    /// A limit behind this place in the sheet is complete; behind place 0, any limit.
+    fn complete_behind(&self, place: u8) -> bool {
+        self.now.report.bits & ((1 << (9 - place)) - 2) != 0
+    }
+
+    /// The regions of lowest voltage, highest voltage and frequency, as statuses: the worse, the higher.
+    fn regions(&self) -> [u8; 3] {
+        let phases = &self.sample[..3];
+        let by_code = |code: &u32| match code {
+            250..=774 => other::MANDATORY,
+            775..=1210 => other::CONTINUOUS,
+            0..=1440 => other::MOMENTARY,
+            _ => other::CEASE,
+        };
+        let hertz = if (58800..=61200).contains(&self.sample[3]) { other::CONTINUOUS } else { other::MANDATORY };
+        [by_code(phases.iter().min().unwrap()), by_code(phases.iter().max().unwrap()), hertz]
+    }
+
+    /// The lowest voltage is named outside continuous operation, and this one of the regions is as bad.
+    fn as_bad_as_lowest(&self, of: usize) -> bool {
+        let regions = self.regions();
+        self.named(library::STATUS_BY_LOWEST) && regions[0] != other::CONTINUOUS && regions[of] == regions[0]
+    }
+
+    /// The highest voltage is named, and this one of the regions is not continuous either, though better.
+    fn bad_beside_highest(&self, of: usize) -> bool {
+        let regions = self.regions();
+        self.named(library::STATUS_BY_HIGHEST) && regions[of] != other::CONTINUOUS && regions[of] < regions[1]
+    }
+
+    /// The volt-watt curve at the mean voltage.
+    fn curve(&self) -> i64 {
+        let mean = i64::from(self.sample[..3].iter().map(|code| (code * 100_000).isqrt()).sum::<u32>() / 3);
+        let [(from, first), (to, last)] = self.settings.watt.map(|p| (i64::from(p.volts), i64::from(p.power)));
+        match mean {
+            _ if mean <= from => first,
+            _ if mean >= to => last,
+            _ => first + (last - first) * (mean - from) / (to - from),
+        }
+    }
+
+    /// What each of the six leaves, in the order of their numbers, in a status that gives power.
+    fn left(&self) -> [i64; 6] {
+        let r = &self.now.report;
+        let nameplate = (100_000_000 - i64::from(r.vars).pow(2)).isqrt();
+        let (available, limit) = (i64::from(self.sample[5]), i64::from(self.sample[6]));
+        [available, limit, i64::from(r.share), self.curve(), nameplate, 250 * i64::from(r.recovery)]
+    }
+
+    fn status_holds(&self, status: u8) -> bool {
+        self.now.watts_rule == library::WATTS_BY_STATUS && self.now.report.status == status
+    }
+
+    fn held_at(&self, watts: u16) -> bool {
+        self.now.watts_rule != library::WATTS_BY_STATUS && giving(self.now.report.status) && self.now.report.watts == watts
+    }
+}
+
+/// Ways of naming a rule. The highest voltage is never named where the frequency is as bad: the frequency is at worst in mandatory operation,
+/// and where the highest voltage is there, low, the lowest is no better.
+const NAMINGS: [(&str, fn(&Explaining) -> bool); 17] = [
+    ("permission named, a limit complete too", |e| e.named(library::STATUS_BY_PERMISSION) && e.complete_behind(0)),
+    ("permission named, no limit complete", |e| e.named(library::STATUS_BY_PERMISSION) && !e.complete_behind(0)),
+    ("the wait named, permission off", |e| e.named(library::STATUS_BY_WAIT) && !e.permitted()),
+    ("the wait named, a limit complete", |e| e.named(library::STATUS_BY_WAIT) && e.complete_behind(0)),
+    ("the wait named, status without a name", |e| e.named(library::STATUS_BY_WAIT) && e.lent.status > other::CEASE),
+    ("a return, status without a name", |e| e.named(library::STATUS_BY_RETURN) && e.lent.status > other::CEASE),
+    ("lowest named in entering", |e| e.named(library::STATUS_BY_LOWEST) && e.now.report.status == other::ENTERING),
+    ("lowest named in continuous", |e| e.named(library::STATUS_BY_LOWEST) && e.now.report.status == other::CONTINUOUS),
+    ("lowest named, highest as bad", |e| e.as_bad_as_lowest(1)),
+    ("lowest named, frequency as bad", |e| e.as_bad_as_lowest(2)),
+    ("highest named, lowest bad but better", |e| e.bad_beside_highest(0)),
+    ("highest named, frequency bad but better", |e| e.bad_beside_highest(2)),
+    ("the status holds the watts in tripped", |e| e.status_holds(other::TRIPPED)),
+    ("the status holds the watts in momentary", |e| e.status_holds(other::MOMENTARY)),
+    ("the status holds the watts in cease", |e| e.status_holds(other::CEASE)),
+    ("another rule holds the watts at 0", |e| e.held_at(0)),
+    ("nothing holds the watts down", |e| e.held_at(10_000)),
+];
+
+/// What the explained steps reach.
+#[derive(Default)]
+struct Reached {
+    status_rules: [u64; STATUS_RULES.len()],
+    limits: [u64; LIMITS.len()],
+    /// with another one complete behind it in the sheet
+    ahead: [u64; LIMITS.len()],
+    watts_rules: [u64; WATTS_RULES.len()],
+    /// at [i][k] the power i named where the later k leaves the same, at [i][i] where no other does
+    ties: [[u64; 6]; 6],
+    namings: [u64; NAMINGS.len()],
+    /// by the number of the refusal
+    refused: [u64; 9],
+}
+
+impl Reached {
+    /// Counts an accepted step on which both agree.
+    fn accepted(&mut self, step: &Explaining) {
+        for (count, (rule, _)) in self.status_rules.iter_mut().zip(STATUS_RULES) {
+            *count += u64::from(step.now.status_rule == rule);
+        }
+        for (i, place) in (0..8).zip(1..) {
+            let named = step.named(library::STATUS_BY_LIMIT) && step.now.limit == place;
+            self.limits[i] += u64::from(named);
+            self.ahead[i] += u64::from(named && step.complete_behind(place));
+        }
+        for (count, (rule, _)) in self.watts_rules.iter_mut().zip(WATTS_RULES) {
+            *count += u64::from(step.now.watts_rule == rule);
+        }
+        for (count, (_, shown)) in self.namings.iter_mut().zip(NAMINGS) {
+            *count += u64::from(shown(step));
+        }
+        if giving(step.now.report.status) {
+            let named = step.now.watts_rule - library::WATTS_BY_AVAILABLE;
+            self.tied(named.into(), step.left().map(|left| left == i64::from(step.now.report.watts)));
+        }
+    }
+
+    /// `same` are those that leave what the watts are, the one named among them.
+    fn tied(&mut self, named: usize, same: [bool; 6]) {
+        self.ties[named][named] += u64::from(same.iter().filter(|&&one| one).count() == 1);
+        for i in named + 1..6 {
+            self.ties[named][i] += u64::from(same[i]);
+        }
+    }
+
+    fn print(&self, tally: &mut Tally) {
+        for ((_, name), count) in STATUS_RULES.into_iter().zip(self.status_rules) {
+            tally.reached("status held by", name, count);
+        }
+        for (i, name) in LIMITS.into_iter().enumerate() {
+            tally.reached("limit named:", name, self.limits[i]);
+            // uf2 and a limit of overfrequency are not broken at once, and behind of2 is none
+            if name != "uf2" && name != "of2" {
+                tally.reached("limit named before another that is complete:", name, self.ahead[i]);
+            }
+        }
+        for ((_, name), count) in WATTS_RULES.into_iter().zip(self.watts_rules) {
+            tally.reached("watts held by", name, count);
+        }
+        for i in 0..6 {
+            let (name, later) = (WATTS_RULES[i + 1].1, |j: usize| WATTS_RULES[j + 1].1);
+            tally.reached("watts held alone by", name, self.ties[i][i]);
+            for j in i + 1..6 {
+                tally.reached("watts held by", &format!("{name}, the same left by {}", later(j)), self.ties[i][j]);
+            }
+        }
+        for ((name, _), count) in NAMINGS.into_iter().zip(self.namings) {
+            tally.reached("rules:", name, count);
+        }
+        for number in 2..=8 {
+            tally.reached("explained step refused with", &number.to_string(), self.refused[number]);
+        }
+    }
+}
+
 // ---- what is reached of carrying images over
 
 /// A call that carries an image, and what came of it.
@@ -430,7 +647,10 @@ struct Tally {
     differ_in_case: u64,
     passed: u64,
     failed: u64,
+    /// of these every other is an explained one
+    steps: u64,
     recoveries: [u64; RECOVERIES.len()],
+    rules: Reached,
     carryings: [u64; CARRYINGS.len()],
 }
 
@@ -486,12 +706,59 @@ impl Tally {
 fn compare_fresh(tally: &mut Tally) -> Board {
     let b = library::fresh();
     let r = library::fresh_report();
+    let e = library::fresh_explained();
     tally.call(other_record(&b) == other::fresh(), || format!("fresh: {:?}", b));
     tally.call(r == report_of(&other::fresh_report()), || format!("fresh report: {:?}", r));
+    tally.call(e == explained_of(&other::fresh_report(), &other::fresh_rules()), || format!("fresh report, explained: {:?}", e));
     b
 }
 
+/// A step, every other time an explained one.
 fn compare_step(tally: &mut Tally, board: &mut Board, settings: &Settings, sample: &[u32], report: &mut Report) -> u32 {
+    tally.steps += 1;
+    if tally.steps % 2 == 0 {
+        return compare_plain(tally, board, settings, sample, report);
+    }
+    let rule = !tally.calls as u8;
+    let mut explained = Explained { report: *report, status_rule: rule, limit: rule, watts_rule: rule };
+    let number = compare_explained(tally, board, settings, sample, &mut explained);
+    *report = explained.report;
+    number
+}
+
+fn compare_explained(tally: &mut Tally, board: &mut Board, settings: &Settings, sample: &[u32], explained: &mut Explained) -> u32 {
+    let lent = (*board, *settings, *explained);
+    let mut record = other_record(board);
+    let (number, reported) = match other::step_explained(&mut record, &other_settings(settings), sample) {
+        Ok((r, rules)) => (0, explained_of(&r, &rules)),
+        Err(n) => (u32::from(n), *explained),
+    };
+    let pattern = tally.calls as u8;
+    let (mut b, mut s, mut e) = (lent_board(pattern, board), lent_settings(pattern, settings), lent_explained(pattern, explained));
+    let (before, behind, numbers) = ((b.bytes(), s.bytes(), e.bytes()), (b.behind(), e.behind()), sample.to_vec());
+    let found = library::step_explained(b.get(), s.get(), &numbers, e.get());
+    let untouched = b.bytes() == before.0 && e.bytes() == before.2;
+    (*board, *explained) = (*b.get(), *e.get());
+    let same = found == number
+        && other_record(board) == record
+        && *explained == reported
+        && s.bytes() == before.1
+        && numbers == sample
+        && (b.behind(), e.behind()) == behind
+        && (found == 0 || untouched);
+    tally.call(same, || {
+        format!("explained step of {lent:?} with {sample:?}: {found} {board:?} {explained:?}, not {number} {record:?} {reported:?}")
+    });
+    if same && found == 0 {
+        tally.accepted(&lent.0, &explained.report);
+        tally.rules.accepted(&Explaining { lent: &lent.0, settings, sample, now: explained });
+    } else if same {
+        tally.rules.refused[found as usize] += 1;
+    }
+    found
+}
+
+fn compare_plain(tally: &mut Tally, board: &mut Board, settings: &Settings, sample: &[u32], report: &mut Report) -> u32 {
     let lent = (*board, *settings, *report);
     let mut record = other_record(board);
     let (number, reported) = match other::step(&mut record, &other_settings(settings), sample) {
@@ -588,12 +855,20 @@ fn compare_carry(tally: &mut Tally, forward: bool, source: &[u8], target: &[u8])
     (found, after)
 }
 
-/// The same by the library's own steps, for a replay that is not refused.
+/// The same by the library's own steps, every other an explained one, for a replay that is not refused.
 fn step_by_step(settings: &Settings, samples: &[u32], buffer: &mut [u8]) -> (usize, Report) {
-    let (mut board, mut report) = (library::fresh(), library::fresh_report());
-    let accepted = samples.chunks(7).filter(|s| library::step(&mut board, settings, s, &mut report) == 0).count();
+    let (mut board, mut last) = (library::fresh(), library::fresh_explained());
+    let mut accepted = 0;
+    for (i, s) in samples.chunks(7).enumerate() {
+        let number = if i % 2 == 0 {
+            library::step_explained(&mut board, settings, s, &mut last)
+        } else {
+            library::step(&mut board, settings, s, &mut last.report)
+        };
+        accepted += usize::from(number == 0);
+    }
     library::save(&board, buffer);
-    (accepted, report)
+    (accepted, last.report)
 }
 
 fn compare_replay(tally: &mut Tally, settings: &Settings, samples: &[u32], report: &Report, buffer: &[u8]) -> (Replayed, Report) {
@@ -664,6 +939,120 @@ fn lent_recoveries(tally: &mut Tally, dice: &mut Dice) {
         let steady = [1000, 1010, 990, 60000, 1, 10000, 9000];
         let s = if dice.one_in(2) { dip(dice, &steady) } else { steady.to_vec() };
         compare_step(tally, &mut record, &settings_of(&good_pairs(dice)), &s, &mut wild_report(dice));
+        if i % 100 == 0 {
+            tally.case();
+        }
+    }
+}
+
+/// Codes and frequencies at the edges of regions, of limits and of entering service.
+const EDGES: [u32; 12] = [0, 249, 250, 774, 775, 841, 1000, 1210, 1211, 1440, 1441, 4095];
+const HERTZ_EDGES: [u32; 16] =
+    [40000, 49999, 56999, 57000, 58799, 58800, 58999, 59000, 61000, 61001, 61200, 61201, 61800, 61801, 66001, 80000];
+
+/// Accepted settings, the trip levels mostly those nearest to nominal and the clearing times the shortest; a wait of 0 to 3.
+fn rule_settings(dice: &mut Dice) -> Settings {
+    let mut pairs = good_pairs(dice);
+    for (i, pair) in pairs.iter_mut().enumerate().take(8) {
+        let (low, high, shortest, _, _) = ROWS[i];
+        let under = matches!(i, 0 | 1 | 4 | 5);
+        if !dice.one_in(6) {
+            pair.0 = if under { high } else { low };
+        }
+        if !dice.one_in(6) {
+            pair.1 = shortest;
+        }
+    }
+    pairs[10] = (dice.within(0, 3), dice.inside(100, 110));
+    settings_of(&pairs)
+}
+
+/// A record of any status whose counters are full, full after this step, one short of that, or low.
+fn rule_record(dice: &mut Dice, s: &Settings) -> Board {
+    let tops: [u32; 9] = std::array::from_fn(|i| if i < 8 { s.trip[i].clearing } else { s.wait.max(1) });
+    let counters = tops.map(|top| match dice.below(8) {
+        0 | 1 => top - 1,
+        2 => top,
+        3 => u32::MAX,
+        4 => top.saturating_sub(2),
+        _ => dice.below(14) as u32,
+    });
+    let status = if dice.one_in(8) { dice.within(6, 255) as u8 } else { dice.within(0, 5) as u8 };
+    let ramp = if dice.one_in(2) { s.ramp - dice.below(2) as u32 } else { dice.within(0, s.ramp.into()) as u32 };
+    Board { status, counters, ramp, ..wild_record(dice) }
+}
+
+/// One code on all phases or most, one frequency, permission mostly, powers of a few kinds.
+fn rule_sample(dice: &mut Dice) -> Vec<u32> {
+    let edge = |dice: &mut Dice| EDGES[dice.below(12) as usize];
+    let most = if dice.one_in(2) { 1000 } else { edge(dice) };
+    let mut s: Vec<u32> = (0..3).map(|_| if dice.one_in(4) { edge(dice) } else { most }).collect();
+    s.push(if dice.one_in(2) { 60000 } else { HERTZ_EDGES[dice.below(16) as usize] });
+    s.push(dice.below(4).min(1) as u32);
+    s.extend((0..2).map(|_| dice.inside(0, 10000) as u32));
+    s
+}
+
+/// An explained step of a lent record, over numbers that no step writes; then a step, explained or not, with the same sample.
+fn two_steps(tally: &mut Tally, mut record: Board, settings: &Settings, sample: &[u32]) {
+    let report = Report { status: 77, bits: 20_077, share: 20_077, recovery: 77, watts: 20_077, vars: -20_077 };
+    let mut explained = Explained { report, status_rule: 77, limit: 77, watts_rule: 77 };
+    compare_explained(tally, &mut record, settings, sample, &mut explained);
+    compare_step(tally, &mut record, settings, sample, &mut explained.report);
+}
+
+/// Lent records that trip, wait, return or stay in service, several limits and regions at once.
+fn status_rules(tally: &mut Tally, dice: &mut Dice) {
+    for i in 1..=20_000 {
+        let settings = rule_settings(dice);
+        let record = rule_record(dice, &settings);
+        two_steps(tally, record, &settings, &rule_sample(dice));
+        if i % 100 == 0 {
+            tally.case();
+        }
+    }
+}
+
+/// What holds the watts: one of the six leaves `least`, those before it more, those behind it the same or more. A nameplate and a recovery
+/// of just so much are not always to be had: then they leave somewhat more.
+fn six_powers(dice: &mut Dice) -> [i64; 6] {
+    let least = match dice.below(8) {
+        0 => 0,
+        1 => 10_000,
+        2 | 3 => dice.within(0, 10_000),
+        _ => 250 * dice.within(29, 39),
+    };
+    let first = dice.below(6) as usize;
+    std::array::from_fn(|i| match i {
+        _ if i < first => dice.inside((least + 1).min(10_000), 10_000),
+        _ if i == first || dice.one_in(2) => least,
+        _ => dice.inside(least, 10_000),
+    })
+}
+
+/// Lent records in service, in continuous and mandatory operation, under settings in which the six leave these powers.
+fn watts_rules(tally: &mut Tally, dice: &mut Dice) {
+    for i in 1..=20_000 {
+        let [available, limit, share, curve, nameplate, recovery] = six_powers(dice);
+        let mut settings = rule_settings(dice);
+        settings.ramp = [100, 10_000, 100_000][dice.below(3) as usize];
+        let vars = (100_000_000 - nameplate * nameplate).isqrt() as i32;
+        settings.var = settings.var.map(|p| Point { power: if nameplate % 2 == 0 { vars } else { -vars }, ..p });
+        settings.watt[0].power = curve as i32;
+        if dice.one_in(2) {
+            settings.watt[1].power = curve as i32;
+        }
+        let (code, hertz) = [(1000, 60000), (900, 60000), (1150, 60000), (700, 60000), (1000, 58500)][dice.below(5) as usize];
+        let ramping = code > 774 && hertz == 60000;
+        let count = (share * i64::from(settings.ramp) + 9_999) / 10_000;
+        let record = Board {
+            status: dice.within(1, 5) as u8,
+            counters: std::array::from_fn(|_| dice.below(12) as u32),
+            ramp: (count - i64::from(ramping)).max(0) as u32,
+            recovery: ((recovery + 249) / 250 - 1).max(0) as u8,
+            ..wild_record(dice)
+        };
+        two_steps(tally, record, &settings, &[code, code, code, hertz, 1, available as u32, limit as u32]);
         if i % 100 == 0 {
             tally.case();
         }
@@ -853,6 +1242,10 @@ fn main() {
     lent_recoveries(&mut tally, &mut Dice(40));
     println!("steps: these, and 20000 of records with low counters:");
     tally.recoveries(RECOVERIES.len());
+    status_rules(&mut tally, &mut Dice(86));
+    watts_rules(&mut tally, &mut Dice(88));
+    println!("explained steps: every other of these, and two times 20000 of lent records for the rules:");
+    std::mem::take(&mut tally.rules).print(&mut tally);
     let mut seen = [0; 10];
     saves(&mut tally, &mut Dice(45), &mut seen);
     println!("saves: {} written, {} refused with 9", seen[0], seen[9]);

@@ -56,6 +56,33 @@ pub struct Report {
     pub vars: i16,
 }
 
+/// The rules that held a status.
+pub const STATUS_BY_PERMISSION: u8 = 1;
+pub const STATUS_BY_LIMIT: u8 = 2;
+pub const STATUS_BY_WAIT: u8 = 3;
+pub const STATUS_BY_RETURN: u8 = 4;
+pub const STATUS_BY_LOWEST: u8 = 5;
+pub const STATUS_BY_HIGHEST: u8 = 6;
+pub const STATUS_BY_FREQUENCY: u8 = 7;
+
+/// The rules that held the watts.
+pub const WATTS_BY_STATUS: u8 = 1;
+pub const WATTS_BY_AVAILABLE: u8 = 2;
+pub const WATTS_BY_OPERATOR: u8 = 3;
+pub const WATTS_BY_SHARE: u8 = 4;
+pub const WATTS_BY_CURVE: u8 = 5;
+pub const WATTS_BY_NAMEPLATE: u8 = 6;
+pub const WATTS_BY_RECOVERY: u8 = 7;
+
+#[repr(C)]
+#[derive(Clone, Copy, Debug, PartialEq)]
+pub struct Explained {
+    pub report: Report,
+    pub status_rule: u8,
+    pub limit: u8,
+    pub watts_rule: u8,
+}
+
 #[repr(C)]
 #[derive(Clone, Copy, Debug, PartialEq)]
 pub struct Sheet {
@@ -76,8 +103,16 @@ pub struct Replayed {
 extern "C" {
     fn saltdelta_fresh() -> Board;
     fn saltdelta_fresh_report() -> Report;
+    fn saltdelta_fresh_explained() -> Explained;
     fn saltdelta_read_sheet(settings: &mut Settings, bytes: *const u8, length: usize) -> Sheet;
     fn saltdelta_step(board: &mut Board, settings: &Settings, sample: *const u32, count: usize, report: &mut Report) -> u32;
+    fn saltdelta_step_explained(
+        board: &mut Board,
+        settings: &Settings,
+        sample: *const u32,
+        count: usize,
+        explained: &mut Explained,
+    ) -> u32;
     fn saltdelta_save(board: &Board, buffer: *mut u8, length: usize) -> u32;
     fn saltdelta_carry_forward(source: *const u8, source_length: usize, target: *mut u8, target_length: usize) -> u32;
     fn saltdelta_carry_back(source: *const u8, source_length: usize, target: *mut u8, target_length: usize) -> u32;
@@ -99,12 +134,20 @@ pub fn fresh_report() -> Report {
     unsafe { saltdelta_fresh_report() }
 }
 
+pub fn fresh_explained() -> Explained {
+    unsafe { saltdelta_fresh_explained() }
+}
+
 pub fn read_sheet(settings: &mut Settings, bytes: &[u8]) -> Sheet {
     unsafe { saltdelta_read_sheet(settings, bytes.as_ptr(), bytes.len()) }
 }
 
 pub fn step(board: &mut Board, settings: &Settings, sample: &[u32], report: &mut Report) -> u32 {
     unsafe { saltdelta_step(board, settings, sample.as_ptr(), sample.len(), report) }
+}
+
+pub fn step_explained(board: &mut Board, settings: &Settings, sample: &[u32], explained: &mut Explained) -> u32 {
+    unsafe { saltdelta_step_explained(board, settings, sample.as_ptr(), sample.len(), explained) }
 }
 
 pub fn save(board: &Board, buffer: &mut [u8]) -> u32 {

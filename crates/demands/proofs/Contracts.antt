@@ -14,6 +14,8 @@ use Rattle.settings.proofs.check.Met as check
 use Rattle.service.proofs.fresh.Met as fresh-board
 use Rattle.service.proofs.fresh_report.Met as fresh-report
 use Rattle.service.proofs.step.step.Met as step
+use Rattle.explain.proofs.fresh_answer.Met as fresh-answer
+use Rattle.explain.proofs.step.step.Met as explained-step
 use Rattle.image.proofs.save.Met as save
 use Rattle.carryover.proofs.forward.Met as forward
 use Rattle.carryover.proofs.back.Met as back
@@ -27,6 +29,8 @@ use Rattle.saltdelta.proofs.saltdelta_fresh.Met as exported-fresh
 use Rattle.saltdelta.proofs.saltdelta_fresh_report.Met as exported-fresh-report
 use Rattle.saltdelta.proofs.saltdelta_read_sheet.Met as exported-read-sheet
 use Rattle.saltdelta.proofs.saltdelta_step.Met as exported-step
+use Rattle.saltdelta.proofs.saltdelta_fresh_explained.Met as exported-fresh-explained
+use Rattle.saltdelta.proofs.saltdelta_step_explained.Met as exported-step-explained
 use Rattle.saltdelta.proofs.saltdelta_save.Met as exported-save
 use Rattle.saltdelta.proofs.saltdelta_carry_forward.Met as exported-forward
 use Rattle.saltdelta.proofs.saltdelta_carry_back.Met as exported-back
@@ -44,6 +48,8 @@ module _ {M : Type 1} (𝓤 : URA M) (H : Heap 𝓤) (A : Atoms 𝓤) (mem : Mem
         fresh-record = λ κs a. (tt, id⊢ 𝓤 _, λ r e. id⊢ 𝓤 _);
         fresh-report = λ κs a. (tt, id⊢ 𝓤 _, λ r e. id⊢ 𝓤 _);
         step = λ κs a. (tt, id⊢ 𝓤 _, λ r e. both-facts 𝓤 _ _);
+        fresh-answer = λ κs a. (tt, id⊢ 𝓤 _, λ r e. id⊢ 𝓤 _);
+        explained-step = λ κs a. (tt, id⊢ 𝓤 _, λ r e. both-facts 𝓤 _ _);
         save = λ κs a. (tt, id⊢ 𝓤 _, λ r e. both-facts 𝓤 _ _);
         forward = λ κs a. (tt, id⊢ 𝓤 _, λ r e. both-facts 𝓤 _ _);
         back = λ κs a. (tt, id⊢ 𝓤 _, λ r e. both-facts 𝓤 _ _);
@@ -57,6 +63,8 @@ module _ {M : Type 1} (𝓤 : URA M) (H : Heap 𝓤) (A : Atoms 𝓤) (mem : Mem
         exported-fresh-report = λ κs a. (tt, id⊢ 𝓤 _, λ r e. id⊢ 𝓤 _);
         exported-read-sheet = λ κs a. (tt, id⊢ 𝓤 _, λ r e. id⊢ 𝓤 _);
         exported-step = λ κs a. (tt, id⊢ 𝓤 _, λ r e. id⊢ 𝓤 _);
+        exported-fresh-explained = λ κs a. (tt, id⊢ 𝓤 _, λ r e. id⊢ 𝓤 _);
+        exported-step-explained = λ κs a. (tt, id⊢ 𝓤 _, λ r e. id⊢ 𝓤 _);
         exported-save = λ κs a. (tt, id⊢ 𝓤 _, λ r e. id⊢ 𝓤 _);
         exported-forward = λ κs a. (tt, id⊢ 𝓤 _, λ r e. id⊢ 𝓤 _);
         exported-back = λ κs a. (tt, id⊢ 𝓤 _, λ r e. id⊢ 𝓤 _);
@@ -71,6 +79,8 @@ code-meets =
       fresh-record = fresh-board.met;
       fresh-report = fresh-report.met;
       step = step.met;
+      fresh-answer = fresh-answer.met;
+      explained-step = explained-step.met;
       save = save.met;
       forward = forward.met;
       back = back.met;
@@ -84,6 +94,8 @@ code-meets =
       exported-fresh-report = exported-fresh-report.met;
       exported-read-sheet = exported-read-sheet.met;
       exported-step = exported-step.met;
+      exported-fresh-explained = exported-fresh-explained.met;
+      exported-step-explained = exported-step-explained.met;
       exported-save = exported-save.met;
       exported-forward = exported-forward.met;
       exported-back = exported-back.met;

@@ -50,9 +50,17 @@ use Rattle.saltdelta.proofs.Refusals.{exported-refuse}
 use Rattle.saltdelta.proofs.Exported.{board-is, exported-replay}
 use Rattle.demands.specs.Demands.{ExportedRefusals, ExportedDemands, ExportedUnderTexts, OurReplay, ExportedReplay, ReplayGroups}
 use Rattle.demands.specs.Demands.{OurCarryOver, OneCarryOver, OurWayBack, AnyWayBack, ShamCarryOversCaught}
+use Rattle.demands.specs.Demands.{OurRules, OneRuling, AnyRules, ExportedRules, ShamRulesCaught}
 use Rattle.demands.specs.Demands.{CodeContracts, CodeMeetsContracts}
 use Rattle.carryover.proofs.Carrying.{refused-rightly, round-trips}
 use Rattle.carryover.proofs.Numbered.{numbered}
+use Rattle.explain.proofs.Alone.{leaves-reports}
+use Rattle.explain.proofs.Showing.{board-alone, shows-rules}
+use Rattle.explain.proofs.Naming.{names-status, one-status-rule, names-watts, one-watts-rule}
+use Rattle.explain.proofs.OnRecords.{names-on-records}
+use Rattle.explain.proofs.Numbers.{numbers-tell}
+use Rattle.saltdelta.proofs.Explaining.{explains-in-numbers}
+use Rattle.demands.proofs.ShamRules.{waits, turned, best, last, mandatory}
 use Rattle.demands.proofs.Contracts.{contracts-say, code-meets}
 use Rattle.demands.proofs.CarryOver.{carries-records, histories-back}
 use Rattle.demands.proofs.OneCarryOver.{one-carry-over}
@@ -188,6 +196,21 @@ oneCarryOver = one-carry-over
 pub ourWayBack : OurWayBack
 ourWayBack = histories-back ourEquipment our-equipment-sound
 
+pub ourRules : OurRules
+ourRules =
+    record {
+      shows = shows-rules ourEquipment;
+      reports = leaves-reports ourEquipment;
+      demands = (subst⁻¹ (Demand2 ourEquipment) (board-alone ourEquipment) ourTripAndReturn, subst⁻¹ (Demand3 ourEquipment) (board-alone ourEquipment) ourTwoHistories);
+      status = names-status ourEquipment;
+      watts = names-watts ourEquipment;
+      on-records = names-on-records ourEquipment;
+      numbers = numbers-tell;
+    }
+
+pub oneRuling : OneRuling
+oneRuling = record { status = one-status-rule ourEquipment; watts = one-watts-rule ourEquipment }
+
 pub edgeValues : EdgeValues
 edgeValues = edges-hold
 
@@ -243,6 +266,9 @@ shamCarryOversCaught =
       swaps = swaps-caught;
     }
 
+pub shamRulesCaught : ShamRulesCaught
+shamRulesCaught = record { waits = waits; turned = turned; best = best; last = last; mandatory = mandatory }
+
 pub anyTripAndReturn : AnyTripAndReturn
 anyTripAndReturn e sound = demand2 e sound
 
@@ -254,6 +280,9 @@ anyWayBack = histories-back
 
 pub anyTwoHistories : AnyTwoHistories
 anyTwoHistories e sound = demand3 e sound
+
+pub anyRules : AnyRules
+anyRules e st ok = (shows-rules e st ok, names-status e st, names-watts e st)
 
 pub ourEquipmentSound : OurEquipmentSound
 ourEquipmentSound = our-equipment-sound
@@ -274,6 +303,9 @@ exportedUnderTexts old before s zero =
     let stored = exported-refuse .sheet .settings-stored s old zero in
     let ok = subst⁻¹ (λ (st : Settings). settingsAccepted st ≡ true) stored (sheet-written-out s read .accepted) in
     (ok, exportedDemands before .0 (settingsAfter old s) ok, exportedDemands before .1 (settingsAfter old s) ok)
+
+pub exportedRules : ExportedRules
+exportedRules = explains-in-numbers
 
 pub ourReplay : OurReplay
 ourReplay = replays-rightly our-equipment-sound

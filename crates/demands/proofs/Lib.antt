@@ -14,4 +14,5 @@ pub mod CarryOver
 pub mod ShamCarryOvers
 pub mod OneCarryOver
 pub mod Contracts
+pub mod ShamRules
 pub mod Demands

@@ -29,6 +29,8 @@ use Rattle.rules.specs.Images.{imageLength, saveCheck, savedInto}
 use Rattle.claims.specs.Calls.{freshReport}
 use Rattle.claims.specs.FirstCause.{cause, first, settingsCauses, sampleCauses, causeLine}
 use Rattle.carryover.specs.CarryOver.{carryNumber, forwardAnswer, backAnswer, forwardInto, backInto, forwardCauses, backCauses}
+use Rattle.explain.specs.Numbers.{explainedNumber}
+use Rattle.explain.specs.Explained.{explainedStep, freshAnswer}
 use Rattle.replay.specs.Replays.{replayed, replayedInto}
 use Rattle.sheet.specs.Outcomes.{SheetGiven}
 use Rattle.sheet.specs.Parts.{IsPart}
@@ -37,6 +39,7 @@ use Rattle.program.specs.States.{start}
 use Rattle.program.specs.Responses.{lineRoom, longest}
 use Rattle.respond.specs.Answering.{Responds}
 use Rattle.saltdelta.specs.Answers.{recordAfter, reportAfter, stepNumber, sheetAnswer, settingsAfter, replayAnswer, replayReport}
+use Rattle.saltdelta.specs.Explained.{explainedFresh, explainedAfter}
 use Rattle.sensing.proofs.sense as sense
 use Rattle.sensing.proofs.sense.Statement as sense-code
 use Rattle.settings.proofs.check as check
@@ -47,6 +50,10 @@ use Rattle.service.proofs.fresh_report as fresh-report
 use Rattle.service.proofs.fresh_report.Statement as fresh-report-code
 use Rattle.service.proofs.step.step as step
 use Rattle.service.proofs.step.step.Statement as step-code
+use Rattle.explain.proofs.fresh_answer as fresh-answer
+use Rattle.explain.proofs.fresh_answer.Statement as fresh-answer-code
+use Rattle.explain.proofs.step.step as explained-step
+use Rattle.explain.proofs.step.step.Statement as explained-step-code
 use Rattle.image.proofs.save as save
 use Rattle.image.proofs.save.Statement as save-code
 use Rattle.carryover.proofs.forward as forward
@@ -73,6 +80,10 @@ use Rattle.saltdelta.proofs.saltdelta_read_sheet as exported-read-sheet
 use Rattle.saltdelta.proofs.saltdelta_read_sheet.Statement as exported-read-sheet-code
 use Rattle.saltdelta.proofs.saltdelta_step as exported-step
 use Rattle.saltdelta.proofs.saltdelta_step.Statement as exported-step-code
+use Rattle.saltdelta.proofs.saltdelta_fresh_explained as exported-fresh-explained
+use Rattle.saltdelta.proofs.saltdelta_fresh_explained.Statement as exported-fresh-explained-code
+use Rattle.saltdelta.proofs.saltdelta_step_explained as exported-step-explained
+use Rattle.saltdelta.proofs.saltdelta_step_explained.Statement as exported-step-explained-code
 use Rattle.saltdelta.proofs.saltdelta_save as exported-save
 use Rattle.saltdelta.proofs.saltdelta_save.Statement as exported-save-code
 use Rattle.saltdelta.proofs.saltdelta_carry_forward as exported-forward
@@ -96,7 +107,7 @@ Promises 𝓤 T c claim =
 -- in every model of the logic, as contracts are read
 module _ {M : Type 1} (𝓤 : URA M) (H : Heap 𝓤) (A : Atoms 𝓤) (mem : Memory → SProp 𝓤) (run : Routine → Fun 𝓤) where
   pub record ContractsSay : Type 2 where
-    -- `sensing::sense`, `settings::check`, `service::fresh`, `service::fresh_report`, `service::step::step`, `image::save`, `carryover::forward`,
+    -- `sensing::sense`, `settings::check`, `service::fresh`, `service::fresh_report`, `service::step::step`, `explain::fresh_answer`, `explain::step::step`, `image::save`, `carryover::forward`,
     -- `carryover::back`, `replay::replay`, `sheet::read`, `sheet::part`, `reader::read_sheet`, `respond::start`, `respond::respond`
     pub sense : Promises 𝓤 sense.ended (sense.clauses 𝓤 H A mem run)
         (λ κs a r e. (r ≡ sensed (a .0)) × (sensedNumber r ≡ first (cause 4 (ltb lastCode (a .0)) ∷ [])))
@@ -107,6 +118,10 @@ module _ {M : Type 1} (𝓤 : URA M) (H : Heap 𝓤) (A : Atoms 𝓤) (mem : Mem
     pub step : Promises 𝓤 step.ended (step.clauses 𝓤 H A mem run)
         (λ κs a r e. (r ≡ stepOf ourEquipment (a .0) (a .1 .0) (now (a .1 .1 .0)))
         × (answerNumber (r .answer) ≡ first (settingsCauses (a .1 .0) ++ sampleCauses (now (a .1 .1 .0)))))
+    pub fresh-answer : Promises 𝓤 fresh-answer.ended (fresh-answer.clauses 𝓤 H A mem run) (λ κs a r e. r ≡ freshAnswer)
+    pub explained-step : Promises 𝓤 explained-step.ended (explained-step.clauses 𝓤 H A mem run)
+        (λ κs a r e. (r ≡ explainedStep ourEquipment (a .0) (a .1 .0) (now (a .1 .1 .0)))
+        × (explainedNumber (r .answer) ≡ first (settingsCauses (a .1 .0) ++ sampleCauses (now (a .1 .1 .0)))))
     pub save : Promises 𝓤 save.ended (save.clauses 𝓤 H A mem run)
         (λ κs a r e. ((r ≡ saveCheck (now (a .1 .0))) × (now (e .1 .0) ≡ savedInto (a .0) (now (a .1 .0))))
         × (savedNumber r ≡ first (cause 9 (ltb (length (now (a .1 .0))) imageLength) ∷ [])))
@@ -137,6 +152,11 @@ module _ {M : Type 1} (𝓤 : URA M) (H : Heap 𝓤) (A : Atoms 𝓤) (mem : Mem
         (λ κs a r e. (now (e .0) ≡ recordAfter (now (a .0)) (now (a .1 .0)) (now (a .1 .1 .0)))
         × (now (e .1 .1 .1 .0) ≡ reportAfter (now (a .1 .1 .1 .0)) (now (a .0)) (now (a .1 .0)) (now (a .1 .1 .0)))
         × (r ≡ stepNumber (now (a .0)) (now (a .1 .0)) (now (a .1 .1 .0))))
+    pub exported-fresh-explained : Promises 𝓤 exported-fresh-explained.ended (exported-fresh-explained.clauses 𝓤 H A mem run) (λ κs a r e. r ≡ explainedFresh)
+    pub exported-step-explained : Promises 𝓤 exported-step-explained.ended (exported-step-explained.clauses 𝓤 H A mem run)
+        (λ κs a r e. (now (e .0) ≡ recordAfter (now (a .0)) (now (a .1 .0)) (now (a .1 .1 .0)))
+        × (now (e .1 .1 .1 .0) ≡ explainedAfter (now (a .1 .1 .1 .0)) (now (a .0)) (now (a .1 .0)) (now (a .1 .1 .0)))
+        × (r ≡ stepNumber (now (a .0)) (now (a .1 .0)) (now (a .1 .1 .0))))
     pub exported-save : Promises 𝓤 exported-save.ended (exported-save.clauses 𝓤 H A mem run)
         (λ κs a r e. (r ≡ savedNumber (saveCheck (now (a .1 .0)))) × (now (e .1 .0) ≡ savedInto (now (a .0)) (now (a .1 .0))))
     pub exported-forward : Promises 𝓤 exported-forward.ended (exported-forward.clauses 𝓤 H A mem run)
@@ -155,6 +175,8 @@ pub record CodeMeets (M : Type 1) : Type 2 where
   pub fresh-record : fresh-board-code.statement M
   pub fresh-report : fresh-report-code.statement M
   pub step : step-code.statement M
+  pub fresh-answer : fresh-answer-code.statement M
+  pub explained-step : explained-step-code.statement M
   pub save : save-code.statement M
   pub forward : forward-code.statement M
   pub back : back-code.statement M
@@ -168,6 +190,8 @@ pub record CodeMeets (M : Type 1) : Type 2 where
   pub exported-fresh-report : exported-fresh-report-code.statement M
   pub exported-read-sheet : exported-read-sheet-code.statement M
   pub exported-step : exported-step-code.statement M
+  pub exported-fresh-explained : exported-fresh-explained-code.statement M
+  pub exported-step-explained : exported-step-explained-code.statement M
   pub exported-save : exported-save-code.statement M
   pub exported-forward : exported-forward-code.statement M
   pub exported-back : exported-back-code.statement M

@@ -4,4 +4,5 @@ pub mod ShamCarryOvers
 pub mod Shams
 pub mod Lent
 pub mod Contracts
+pub mod ShamRules
 pub mod Demands

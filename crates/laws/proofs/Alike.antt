@@ -32,16 +32,16 @@ module _ (e f : Equipment) (a : Alike e f) (x : Slice) (r : SampleRight x) where
   phase2 : phase e x 2 ≡ phase f x 2
   phase2 = a .sensing (codeOf x 2) (r .code2)
 
-  lowest-alike : lowest e x ≡ lowest f x
+  pub lowest-alike : lowest e x ≡ lowest f x
   lowest-alike = rw (phase0, phase1, phase2)
 
-  highest-alike : highest e x ≡ highest f x
+  pub highest-alike : highest e x ≡ highest f x
   highest-alike = rw (phase0, phase1, phase2)
 
-  mean-alike : mean e x ≡ mean f x
+  pub mean-alike : mean e x ≡ mean f x
   mean-alike = rw (phase0, phase1, phase2)
 
-  region-alike : regionOf e x ≡ regionOf f x
+  pub region-alike : regionOf e x ≡ regionOf f x
   unfolding regionOf
   region-alike = rw (lowest-alike, highest-alike, a .region (lowest f x), a .region (highest f x))
 
@@ -63,7 +63,7 @@ module _ (e f : Equipment) (a : Alike e f) (x : Slice) (r : SampleRight x) where
     unfolding inRange
     range-alike = rw (lowest-alike, highest-alike)
 
-    trips-alike : SameRules x (tripRules e st) x (tripRules f st)
+    pub trips-alike : SameRules x (tripRules e st) x (tripRules f st)
     trips-alike = limits-alike 0 kinds
 
     rules-alike : SameRules x (rules e st) x (rules f st)

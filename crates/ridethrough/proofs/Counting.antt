@@ -110,7 +110,7 @@ pub packed-more : (bs : List Bool) (i : ℕ) → i < length bs → packedAfter 0
 packed-more bs i h = ap (packedAfter 0) (ap (λ (n : ℕ). take n bs) (add-one i) ∙ take-suc bs i false h) ∙ packed-last 0 (take i bs) (getD bs i false)
 
 -- k bits make a number below 2 ^ k
-packed-below : (k n : ℕ) (bs : List Bool) → length bs ≤ k → packedAfter n bs < (n + 1) * 2 ^ k
+pub packed-below : (k n : ℕ) (bs : List Bool) → length bs ≤ k → packedAfter n bs < (n + 1) * 2 ^ k
 packed-below k n [] h = rw (add-one) (le-trans (omega arith) (mul-le-mul-left (suc n) (pow-pos k)))
 packed-below zero n (b ∷ bs) h = absurd (not-suc-le-zero h)
 packed-below (suc k) n (b ∷ bs) h =

@@ -8,7 +8,7 @@ use readings::reading::Reading;
 use rules::Region;
 
 // The region of a voltage (Category III).
-fn voltage_region(v: u32) -> Region
+pub fn voltage_region(v: u32) -> Region
     ensures { λ r. ⌜ r ≡ voltageRegion v ⌝ }
 {
     if 12000 < v {
@@ -24,7 +24,7 @@ fn voltage_region(v: u32) -> Region
     }
 }
 
-fn frequency_region(f: u32) -> Region
+pub fn frequency_region(f: u32) -> Region
     ensures { λ r. ⌜ r ≡ frequencyRegion f ⌝ }
 {
     if f < 58800 {
@@ -37,7 +37,7 @@ fn frequency_region(f: u32) -> Region
 }
 
 // Continuous, mandatory, momentary, cease.
-fn order(r: Region) -> u8
+pub fn order(r: Region) -> u8
     ensures { λ n. ⌜ n ≡ rank r ⌝ }
 {
     match r {

@@ -5,6 +5,7 @@ use denote.Struct.Laws as LL
 use Rattle.walk.proofs.Whole.{Whole, Known, of-struct, of-uint}
 use Rattle.saltdelta.specs.declared.SheetCall.{SheetCall}
 use Rattle.saltdelta.specs.declared.StepCall.{StepCall}
+use Rattle.saltdelta.specs.declared.ExplainedCall.{ExplainedCall}
 use Rattle.saltdelta.specs.declared.ReplayCall.{ReplayCall}
 use Rattle.rules.proofs.Board as B
 use Rattle.rules.proofs.Board.Laws as B′
@@ -18,6 +19,10 @@ use Rattle.saltdelta.proofs.SheetCall as C
 use Rattle.saltdelta.proofs.SheetCall.Laws as C′
 use Rattle.saltdelta.proofs.StepCall as S
 use Rattle.saltdelta.proofs.StepCall.Laws as S′
+use Rattle.saltdelta.proofs.Explained as E
+use Rattle.saltdelta.proofs.Explained.Laws as E′
+use Rattle.saltdelta.proofs.ExplainedCall as X
+use Rattle.saltdelta.proofs.ExplainedCall.Laws as X′
 use Rattle.saltdelta.proofs.ReplayAnswer as P
 use Rattle.saltdelta.proofs.ReplayAnswer.Laws as P′
 use Rattle.saltdelta.proofs.ReplayCall as Q
@@ -44,6 +49,12 @@ sheet-call = of-struct C.the-type C′.the-laws C′.the-plain C′.the-copy
 abbrev pub step-call : Whole
 step-call = of-struct S.the-type S′.the-laws S′.the-plain S′.the-copy
 
+abbrev pub explained : Whole
+explained = of-struct E.the-type E′.the-laws E′.the-plain E′.the-copy
+
+abbrev pub explained-call : Whole
+explained-call = of-struct X.the-type X′.the-laws X′.the-plain X′.the-copy
+
 abbrev pub replay-answer : Whole
 replay-answer = of-struct P.the-type P′.the-laws P′.the-plain P′.the-copy
 
@@ -66,6 +77,15 @@ report-of r g = LL.owed S.the-type S′.the-laws r _ g .1 .0
 
 pub number-of : (r : StepCall) → Known step-call r → Known number (r .number)
 number-of r g = LL.owed S.the-type S′.the-laws r _ g .1 .1 .0
+
+pub explained-board-of : (r : ExplainedCall) → Known explained-call r → Known board (r .board)
+explained-board-of r g = LL.owed X.the-type X′.the-laws r _ g .0
+
+pub explained-of : (r : ExplainedCall) → Known explained-call r → Known explained (r .explained)
+explained-of r g = LL.owed X.the-type X′.the-laws r _ g .1 .0
+
+pub explained-number-of : (r : ExplainedCall) → Known explained-call r → Known number (r .number)
+explained-number-of r g = LL.owed X.the-type X′.the-laws r _ g .1 .1 .0
 
 pub replay-report-of : (r : ReplayCall) → Known replay-call r → Known report (r .report)
 replay-report-of r g = LL.owed Q.the-type Q′.the-laws r _ g .0

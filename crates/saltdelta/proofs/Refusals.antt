@@ -31,6 +31,7 @@ use Rattle.replay.proofs.Demanded.{no-samples, buffer-kept}
 use Rattle.saltdelta.specs.Answers.{recordAfter, reportAfter, reportOr, stepNumber, sheetAnswer, settingsAfter, settingsOr, replayAnswer, replayReport}
 use Rattle.saltdelta.specs.Refuses.{ExportedRefuse}
 use Rattle.saltdelta.proofs.InPlace.{part-in-place}
+use Rattle.saltdelta.proofs.Explaining.{explained-untouched}
 
 -- ---- a step
 
@@ -102,7 +103,7 @@ module _ (st : Settings) (samples buffer : List ℕ) where
 pub exported-refuse : ExportedRefuse
 exported-refuse =
     record {
-      step = record { number = step-cause; record-kept = record-kept; report-kept = report-kept };
+      step = record { number = step-cause; record-kept = record-kept; report-kept = report-kept; explained-kept = explained-untouched };
       sheet = record {
         refused = sheet-cause;
         accepted = sheet-accepted;

@@ -1,3 +1,4 @@
 pub mod Answers
-pub mod Refuses
 pub mod Exported
+pub mod Explained
+pub mod Refuses

@@ -21,12 +21,15 @@ use Rattle.claims.specs.SheetCauses.{FirstCauseAt, lineCause}
 use Rattle.carryover.specs.Carries.{ourForward, ourBack, CarryRefusedRightly}
 use Rattle.replay.specs.Replays.{replayedInto}
 use Rattle.saltdelta.specs.Answers.{recordAfter, reportAfter, stepNumber, sheetAnswer, settingsAfter, replayAnswer, replayReport}
+use Rattle.saltdelta.specs.Explained.{explainedAfter}
+use Rattle.saltdelta.specs.declared.Explained.{Explained}
 
--- `saltdelta_step`: settings by 2 and 3, then the sample by 8, 4, 5, 6, 7
+-- `saltdelta_step` and `saltdelta_step_explained`: settings by 2 and 3, then the sample by 8, 4, 5, 6, 7
 pub record StepRefuses : Type 0 where
   pub number : (b : Board) (st : Settings) (x : Slice) → stepNumber b st x ≡ first (settingsCauses st ++ sampleCauses x)
   pub record-kept : (b : Board) (st : Settings) (x : Slice) → 0 < stepNumber b st x → recordAfter b st x ≡ b
   pub report-kept : (b : Board) (st : Settings) (x : Slice) (before : Report) → 0 < stepNumber b st x → reportAfter before b st x ≡ before
+  pub explained-kept : (b : Board) (st : Settings) (x : Slice) (before : Explained) → 0 < stepNumber b st x → explainedAfter before b st x ≡ before
 
 -- `saltdelta_read_sheet`: the first line with a cause, by the first of 1, 2, 3
 pub record SheetRefuses : Type 0 where

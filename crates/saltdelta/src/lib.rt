@@ -9,8 +9,15 @@ ghost use Rattle.claims.specs.Calls.{freshReport};
 ghost use Rattle.carryover.specs.CarryOver.{carryNumber, forwardAnswer, backAnswer, forwardInto, backInto};
 ghost use Rattle.replay.specs.Replays.{replayed, replayedInto};
 ghost use Rattle.saltdelta.specs.Answers.{sheetAnswer, settingsAfter, recordAfter, reportAfter, stepNumber, replayAnswer, replayReport};
+ghost use Rattle.saltdelta.specs.Explained.{inNumbers, explainedFresh, explainedAfter};
 use carryover::CarryAnswer;
 use carryover::carry_number;
+use explain::ExplainedAnswer;
+use explain::StatusRule;
+use explain::WattsRule;
+use explain::limit_place;
+use explain::status_rule_number;
+use explain::watts_rule_number;
 use rules::Answer;
 use rules::Board;
 use rules::Refusal;
@@ -37,6 +44,15 @@ pub struct ReplayAnswer {
     pub accepted: usize,
 }
 
+// A report with the rules that held it, as numbers: the status's rule, the place of the limit that it names or 0, and the watts' rule.
+#[repr(C)]
+pub struct Explained {
+    pub report: Report,
+    pub status: u8,
+    pub limit: u8,
+    pub watts: u8,
+}
+
 // A fresh board record.
 #[no_mangle]
 pub extern "C" fn saltdelta_fresh() -> Board
@@ -51,6 +67,14 @@ pub extern "C" fn saltdelta_fresh_report() -> Report
     ensures { λ r. ⌜ r ≡ freshReport ⌝ }
 {
     service::fresh_report()
+}
+
+// The same with the rules that held it.
+#[no_mangle]
+pub extern "C" fn saltdelta_fresh_explained() -> Explained
+    ensures { λ r. ⌜ r ≡ explainedFresh ⌝ }
+{
+    fresh_explained()
 }
 
 // Reads the sheet at the front of lent bytes into lent settings; a refused sheet leaves them as they were.
@@ -84,6 +108,27 @@ pub extern "C" fn saltdelta_step(
     }
     *board = next.board;
     *report = next.report;
+    0
+}
+
+// The same step, with its report and the rules that held it; a refused one leaves both lent structs as they were.
+#[no_mangle]
+pub extern "C" fn saltdelta_step_explained(
+    board: &mut Board,
+    settings: &Settings,
+    sample: &[u32],
+    explained: &mut Explained,
+) -> u32
+    ensures { λ n. ⌜ (now (board .exit) ≡ recordAfter (now (board .entry)) (now (settings .entry)) (now (sample .entry)))
+        × (now (explained .exit) ≡ explainedAfter (now (explained .entry)) (now (board .entry)) (now (settings .entry)) (now (sample .entry)))
+        × (n ≡ stepNumber (now (board .entry)) (now (settings .entry)) (now (sample .entry))) ⌝ }
+{
+    let next = explained_call(*board, *settings, sample);
+    if next.number != 0 {
+        return next.number;
+    }
+    *board = next.board;
+    *explained = next.explained;
     0
 }
 
@@ -146,6 +191,13 @@ struct SheetCall {
 struct StepCall {
     board: Board,
     report: Report,
+    number: u32,
+}
+
+// The same with the rules that held the report.
+struct ExplainedCall {
+    board: Board,
+    explained: Explained,
     number: u32,
 }
 
@@ -219,6 +271,52 @@ fn step_call(b: Board, s: Settings, sample: &[u32]) -> StepCall
         Answer::Refused(cause) => StepCall {
             board,
             report: service::fresh_report(),
+            number: number_of(cause),
+        },
+    }
+}
+
+// A report and its rules in numbers.
+fn in_numbers(report: Report, status: StatusRule, watts: WattsRule) -> Explained
+    ensures { λ r. ⌜ r ≡ inNumbers report status watts ⌝ }
+{
+    Explained {
+        report,
+        status: status_rule_number(status),
+        limit: limit_place(status),
+        watts: watts_rule_number(watts),
+    }
+}
+
+// A fresh board's report and rules in numbers.
+fn fresh_explained() -> Explained
+    ensures { λ r. ⌜ r ≡ explainedFresh ⌝ }
+{
+    in_numbers(
+        service::fresh_report(),
+        StatusRule::WaitNotFull,
+        WattsRule::Status,
+    )
+}
+
+// An explained step by value; a refused one has the fresh board's report and rules, which nobody is given.
+fn explained_call(b: Board, s: Settings, sample: &[u32]) -> ExplainedCall
+    ensures { λ r. ⌜ (r .board ≡ recordAfter b s (now (sample .entry)))
+        × (r .explained ≡ explainedAfter explainedFresh b s (now (sample .entry)))
+        × (r .number ≡ stepNumber b s (now (sample .entry))) ⌝ }
+{
+    let next = explain::step::step(b, s, sample);
+    let board = next.board;
+    let answer = next.answer;
+    match answer {
+        ExplainedAnswer::Reported(report, status, watts) => ExplainedCall {
+            board,
+            explained: in_numbers(report, status, watts),
+            number: 0,
+        },
+        ExplainedAnswer::Refused(cause) => ExplainedCall {
+            board,
+            explained: fresh_explained(),
             number: number_of(cause),
         },
     }

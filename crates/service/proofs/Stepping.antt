@@ -38,7 +38,7 @@ use Rattle.service.specs.Steps.{Bits}
 
 -- ---- a power fits the record's fields
 
-fits32 : (z : ℤ) → natAbs z ≤ 10000 → SFits w32 z
+pub fits32 : (z : ℤ) → natAbs z ≤ 10000 → SFits w32 z
 fits32 (pos n) h = record { sfits = omega arith }
 fits32 (negsuc n) h = record { sfits = omega arith }
 
@@ -91,7 +91,7 @@ counted-capped x (r ∷ rs) (n ∷ ns) = ap₂ _∷_ (by (r .counts x)) (counted
     by true = omega arith
     by false = refl
 
-each-length {ℓ} : {A : Type ℓ} (f : Rule → ℕ → A) (rs : List Rule) (ns : List ℕ) (k : ℕ) → length rs ≡ k → length ns ≡ k → length (each f rs ns) ≡ k
+pub each-length {ℓ} : {A : Type ℓ} (f : Rule → ℕ → A) (rs : List Rule) (ns : List ℕ) (k : ℕ) → length rs ≡ k → length ns ≡ k → length (each f rs ns) ≡ k
 unfolding each
 each-length f [] ns k h l = h
 each-length f (r ∷ rs) [] k h l = l
@@ -99,7 +99,7 @@ each-length f (r ∷ rs) (n ∷ ns) zero h l = absurd (omega arith)
 each-length f (r ∷ rs) (n ∷ ns) (suc k) h l = ap suc (each-length f rs ns k (suc-inj h) (suc-inj l))
 
 -- the last of the bits is ready's
-full-last : (rs : List Rule) (r : Rule) (ns : List ℕ) (k : ℕ) → length rs ≡ k → length ns ≡ suc k
+pub full-last : (rs : List Rule) (r : Rule) (ns : List ℕ) (k : ℕ) → length rs ≡ k → length ns ≡ suc k
     → each full (rs ++ (r ∷ [])) ns ≡ each full rs ns ++ (full r (getD ns k 0) ∷ [])
 unfolding each
 full-last [] r [] k h l = absurd (omega arith)

@@ -65,7 +65,7 @@ pub fn fresh_report() -> Report
 }
 
 // An unknown status is read as tripped.
-fn in_service(status: u8) -> bool
+pub fn in_service(status: u8) -> bool
     ensures { λ r. ⌜ r ≡ inService status ⌝ }
 {
     if status < 1 {

@@ -1,0 +1,71 @@
+-- Sham rules are caught: there is no choice in the rules, and a short history tells each sham from ours.
+-- Assumes nothing.
+use mathlib.Core.Path.{_≡_, ap}
+use mathlib.Core.List.{[], _∷_}
+use Prim.Native.Nat.{ℕ}
+use native.Mathlib.Omega.{arith}
+use lib.ListN.{replicate}
+use Rattle.rules.specs.Tests.{all, any, within}
+use Rattle.rules.specs.Sensing.{largest, voltage}
+use Rattle.rules.specs.Samples.{Slice}
+use Rattle.rules.specs.Counters.{broken, inRange}
+use Rattle.rules.specs.Curves.{curveFrom, curve, nameplate}
+use Rattle.rules.specs.Regions.{voltageRegion, frequencyRegion, regionOf, ourEquipment}
+use Rattle.rules.specs.Service.{varsOf}
+use Rattle.rules.specs.History.{streak, serving, climbed, sinceCessation, historyStatus, historyShare, historyRecovery, historyVars}
+use Rattle.rules.specs.declared.Settings.{Settings}
+use Rattle.explain.specs.Numbers.{statusRuleNumber, limitPlace, wattsRuleNumber}
+use Rattle.explain.specs.Explained.{regionCause, historyStatusRule, historyWattsRule}
+use Rattle.explain.specs.Explains.{NamesStatusRule, NamesWattsRule}
+use Rattle.explain.proofs.Naming.{one-status-rule, one-watts-rule}
+use Rattle.demands.specs.Shams.{exampleSheet}
+use Rattle.demands.specs.ShamRules.{waitsAtTrip, lastLimit, bestRegion, lastAmongEquals, statusInMandatory}
+
+abbrev quick : Settings
+quick = exampleSheet 0
+
+-- a sample with one phase at a code, and a frequency, permission and available power
+abbrev sample : ℕ → ℕ → ℕ → ℕ → Slice
+sample code frequency permit available = 1000 ∷ 1000 ∷ code ∷ frequency ∷ permit ∷ available ∷ 10000 ∷ []
+
+abbrev nominal : Slice
+nominal = sample 1000 60000 1 10000
+
+-- permission off: ours says so
+pub waits : ¬ NamesStatusRule ourEquipment quick (waitsAtTrip quick)
+unfolding waitsAtTrip historyStatusRule all any within largest voltage broken inRange streak serving
+waits d =
+    let e : _≡_ {A = ℕ} 3 1 = ap statusRuleNumber (one-status-rule ourEquipment quick (waitsAtTrip quick) d (sample 1000 60000 0 10000 ∷ nominal ∷ [])) in
+    omega arith
+
+-- sixteen samples above 12000 and below 56500: ov2 and uf2 run out at once
+pub turned : ¬ NamesStatusRule ourEquipment quick (lastLimit quick)
+unfolding lastLimit historyStatusRule all any within largest voltage broken inRange streak serving replicate
+turned d =
+    let e : _≡_ {A = ℕ} 6 4 = ap limitPlace (one-status-rule ourEquipment quick (lastLimit quick) d
+    (sample 1441 56000 1 10000 ∷ sample 1441 56000 1 10000 ∷ sample 1441 56000 1 10000 ∷ sample 1441 56000 1 10000
+    ∷ sample 1441 56000 1 10000 ∷ sample 1441 56000 1 10000 ∷ sample 1441 56000 1 10000 ∷ sample 1441 56000 1 10000
+    ∷ sample 1441 56000 1 10000 ∷ sample 1441 56000 1 10000 ∷ sample 1441 56000 1 10000 ∷ sample 1441 56000 1 10000
+    ∷ sample 1441 56000 1 10000 ∷ sample 1441 56000 1 10000 ∷ sample 1441 56000 1 10000 ∷ sample 1441 56000 1 10000 ∷ nominal ∷ [])) in
+    omega arith
+
+-- voltages at nominal and a frequency in mandatory operation: ours names the frequency
+pub best : ¬ NamesStatusRule ourEquipment quick (bestRegion quick)
+unfolding bestRegion regionCause historyStatusRule all any within largest voltage broken inRange voltageRegion frequencyRegion regionOf streak serving
+best d =
+    let e : _≡_ {A = ℕ} 5 7 = ap statusRuleNumber (one-status-rule ourEquipment quick (bestRegion quick) d (sample 1000 58000 1 10000 ∷ nominal ∷ [])) in
+    omega arith
+
+-- a return with no power available: share and available power are both 0
+pub last : ¬ NamesWattsRule ourEquipment quick (lastAmongEquals quick)
+unfolding lastAmongEquals historyWattsRule all any within largest voltage broken inRange voltageRegion frequencyRegion regionOf curveFrom curve nameplate varsOf streak serving climbed sinceCessation historyStatus historyShare historyRecovery historyVars
+last d =
+    let e : _≡_ {A = ℕ} 4 2 = ap wattsRuleNumber (one-watts-rule ourEquipment quick (lastAmongEquals quick) d (sample 1000 60000 1 0 ∷ [])) in
+    omega arith
+
+-- mandatory operation right after a return: the share is 0
+pub mandatory : ¬ NamesWattsRule ourEquipment quick (statusInMandatory quick)
+unfolding statusInMandatory historyWattsRule all any within largest voltage broken inRange voltageRegion frequencyRegion regionOf curveFrom curve nameplate varsOf streak serving climbed sinceCessation historyStatus historyShare historyRecovery historyVars
+mandatory d =
+    let e : _≡_ {A = ℕ} 1 4 = ap wattsRuleNumber (one-watts-rule ourEquipment quick (statusInMandatory quick) d (sample 1000 58000 1 10000 ∷ nominal ∷ [])) in
+    omega arith

@@ -1,0 +1,13 @@
+pub mod Places
+pub mod Causes
+pub mod Binding
+pub mod Stepped
+pub mod Alone
+pub mod Alike
+pub mod Showing
+pub mod FirstPlaces
+pub mod StatusRules
+pub mod WattsRules
+pub mod Naming
+pub mod OnRecords
+pub mod Numbers

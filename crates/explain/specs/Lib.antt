@@ -1,0 +1,4 @@
+pub mod Numbers
+pub mod Explained
+pub mod Places
+pub mod Explains

@@ -1,0 +1,51 @@
+-- Spec 8.5 to 8.8, 11.4: a report with the rules that held it as the calls of the C boundary give it: in numbers.
+-- Assumes nothing.
+use mathlib.Core.Path.{_≡_}
+use mathlib.Core.List.{List, [], _∷_}
+use Rattle.rules.specs.Samples.{Slice}
+use Rattle.rules.specs.Regions.{ourEquipment}
+use Rattle.rules.specs.Reports.{reportOf}
+use Rattle.rules.specs.History.{History, historyReport}
+use Rattle.rules.specs.declared.Board.{Board}
+use Rattle.rules.specs.declared.Report.{Report}
+use Rattle.rules.specs.declared.Settings.{Settings}
+use Rattle.explain.specs.Numbers.{statusRuleNumber, limitPlace, wattsRuleNumber}
+use Rattle.explain.specs.Explained.{historyStatusRule, historyWattsRule, explainedStep}
+use Rattle.explain.specs.declared.StatusRule.{StatusRule}
+use Rattle.explain.specs.declared.WattsRule.{WattsRule}
+use Rattle.explain.specs.declared.ExplainedAnswer.{ExplainedAnswer}
+use Rattle.claims.specs.Calls.{Call, freshReport, runOf, acceptedSamples}
+use Rattle.claims.specs.TripAndReturn.{Next}
+use Rattle.saltdelta.specs.Exported.{exportedBoard}
+use Rattle.saltdelta.specs.declared.Explained.{Explained}
+
+-- a report and its rules, as numbers
+abbrev pub inNumbers : Report → StatusRule → WattsRule → Explained
+inNumbers report status watts =
+    record { report = report; status = statusRuleNumber status; limit = limitPlace status; watts = wattsRuleNumber watts }
+
+-- those of an answer are stored; a refused call has none and changes nothing
+abbrev pub explainedOr : Explained → ExplainedAnswer → Explained
+explainedOr before (ExplainedAnswer.Reported report status watts) = inNumbers report status watts
+explainedOr before (ExplainedAnswer.Refused cause) = before
+
+-- before any sample
+abbrev pub explainedFresh : Explained
+explainedFresh = inNumbers freshReport StatusRule.WaitNotFull WattsRule.Status
+
+-- after a step
+unfoldable pub explainedAfter : Explained → Board → Settings → Slice → Explained
+explainedAfter before b s x = explainedOr before (explainedStep ourEquipment b s x .answer)
+
+-- ---- what a host is told
+
+-- the report and the rules of a history, in numbers
+abbrev pub historyNumbers : Settings → History → Explained
+historyNumbers st h = inNumbers (reportOf (historyReport ourEquipment st h)) (historyStatusRule ourEquipment st h) (historyWattsRule ourEquipment st h)
+
+-- on the record that a list of calls leaves (`exportedBoard`, with `report` lent to them): `saltdelta_step` and `saltdelta_step_explained` both promise `recordAfter`, so that a host may
+-- ask at some calls and not at others
+pub record ExplainsInNumbers (st : Settings) : Type 0 where
+  pub fresh : explainedFresh ≡ historyNumbers st []
+  pub answers : (report : Report) (cs : List Call) (c : Call) (before : Explained) → Next st cs c
+      → explainedAfter before (runOf (exportedBoard report) cs .board) (c .settings) (c .slice) ≡ historyNumbers st (c .slice ∷ acceptedSamples cs)
