@@ -106,6 +106,9 @@ static const char *const namings[NAMINGS] = {
  * where no other does. */
 static unsigned by_status[256], by_limit[256], ahead[256], by_watts[256], same_left[POWERS][POWERS], named[NAMINGS], refused_with[12];
 
+/* Steps of which what the header's name of a rule says is not so. */
+static unsigned misnamed;
+
 static uint32_t root(uint32_t square) {
     uint32_t found = 0;
     for (uint32_t bit = 1 << 15; bit > 0; bit >>= 1)
@@ -135,20 +138,40 @@ static int32_t watt_curve(const saltdelta_settings *s, const uint32_t *sample) {
     return s->watt[0].power + (s->watt[1].power - s->watt[0].power) * (mean - from) / (to - from);
 }
 
+/* The header's names of the six, in their order. */
+static const int power_names[POWERS] = {SALTDELTA_WATTS_BY_AVAILABLE, SALTDELTA_WATTS_BY_OPERATOR,  SALTDELTA_WATTS_BY_SHARE,
+                                        SALTDELTA_WATTS_BY_CURVE,     SALTDELTA_WATTS_BY_NAMEPLATE, SALTDELTA_WATTS_BY_RECOVERY};
+
 /* In a status that gives power: which of the six leave what the watts are. */
 static void powers_named(const saltdelta_settings *s, const uint32_t *sample, const saltdelta_explained *e) {
     const saltdelta_report *r = &e->report;
     const uint32_t vars = (uint32_t)(r->vars < 0 ? -r->vars : r->vars), nameplate = vars > 10000 ? 0 : root(100000000 - vars * vars);
     const uint32_t left[POWERS] = {sample[5], sample[6], r->share, (uint32_t)watt_curve(s, sample), nameplate, 250 * (uint32_t)r->recovery};
-    const int first = e->watts_rule - SALTDELTA_WATTS_BY_AVAILABLE;
-    int same = 0;
-    if (first < 0 || first >= POWERS)
+    int first = 0, same = 0;
+    while (first < POWERS && power_names[first] != e->watts_rule)
+        first++;
+    misnamed += first == POWERS || left[first] != r->watts;
+    if (first == POWERS)
         return;
     for (int i = 0; i < POWERS; i++) {
         same += left[i] == r->watts;
         same_left[first][i] += i > first && left[i] == r->watts;
     }
     same_left[first][first] += same == 1;
+}
+
+/* What the header's name of a status rule says is so; `was` and `is`: in service before and after. */
+static int name_holds(int rule, int was, int is, int off, int completed, int lowest, int highest, int frequency) {
+    switch (rule) {
+    case SALTDELTA_STATUS_BY_PERMISSION: return was && !is && off;
+    case SALTDELTA_STATUS_BY_LIMIT: return was && !is && !off && completed;
+    case SALTDELTA_STATUS_BY_WAIT: return !was && !is;
+    case SALTDELTA_STATUS_BY_RETURN: return !was && is;
+    case SALTDELTA_STATUS_BY_LOWEST: return was && is && lowest >= highest && lowest >= frequency;
+    case SALTDELTA_STATUS_BY_HIGHEST: return was && is && highest > lowest && highest >= frequency;
+    case SALTDELTA_STATUS_BY_FREQUENCY: return was && is && frequency > lowest && frequency > highest;
+    default: return 0;
+    }
 }
 
 /* Counts what an accepted explained step shows: the status lent to it, settings, sample, and what it wrote. */
@@ -161,6 +184,9 @@ static void explained_shown(uint8_t status, const saltdelta_settings *s, const u
     const int by_lowest = rule == SALTDELTA_STATUS_BY_LOWEST, by_highest = rule == SALTDELTA_STATUS_BY_HIGHEST;
     const int gives = e->report.status >= SALTDELTA_ENTERING && e->report.status <= SALTDELTA_MANDATORY;
     const int none = e->watts_rule == SALTDELTA_WATTS_BY_STATUS;
+    const int was = status >= SALTDELTA_ENTERING && status <= SALTDELTA_CEASE, is = e->report.status != SALTDELTA_TRIPPED;
+    const int completed = e->limit >= 1 && e->limit <= 8 && (e->report.bits >> (9 - e->limit) & 1);
+    misnamed += !name_holds(rule, was, is, off, completed, lowest, highest, frequency) || none == gives;
     by_status[rule]++;
     by_limit[e->limit]++;
     if (e->limit <= 8)
@@ -188,11 +214,15 @@ static void explained_shown(uint8_t status, const saltdelta_settings *s, const u
 }
 
 static void often(unsigned count, const char *what, const char *which, const char *beside) {
-    printf("%9u  %s%s%s\n", count, what, which, beside);
-    expect(count >= REACHED_AT_LEAST, which);
+    char line[160];
+    sprintf(line, "%9u  %s%s%s", count, what, which, beside);
+    puts(line);
+    expect(count >= REACHED_AT_LEAST, line);
 }
 
 static void rules_reached(void) {
+    printf("%9u  rules that are not as the header names them\n", misnamed);
+    expect(misnamed == 0, "the header's names of the rules");
     for (int i = 1; i <= STATUS_RULES; i++)
         often(by_status[i], "status held by ", status_rules[i], "");
     for (int i = 1; i <= 8; i++) {

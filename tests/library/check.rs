@@ -407,6 +407,24 @@ const REACHED_AT_LEAST: u64 = 100;
 
 // ---- what is reached of the rules
 
+/// Each name has the comparison program's number of that name.
+const _: () = assert!(
+    library::STATUS_BY_PERMISSION == other::STATUS_BY_PERMISSION
+    && library::STATUS_BY_LIMIT == other::STATUS_BY_LIMIT
+    && library::STATUS_BY_WAIT == other::STATUS_BY_WAIT
+    && library::STATUS_BY_RETURN == other::STATUS_BY_RETURN
+    && library::STATUS_BY_LOWEST == other::STATUS_BY_LOWEST
+    && library::STATUS_BY_HIGHEST == other::STATUS_BY_HIGHEST
+    && library::STATUS_BY_FREQUENCY == other::STATUS_BY_FREQUENCY
+    && library::WATTS_BY_STATUS == other::WATTS_BY_STATUS
+    && library::WATTS_BY_AVAILABLE == other::WATTS_BY_AVAILABLE
+    && library::WATTS_BY_OPERATOR == other::WATTS_BY_OPERATOR
+    && library::WATTS_BY_SHARE == other::WATTS_BY_SHARE
+    && library::WATTS_BY_CURVE == other::WATTS_BY_CURVE
+    && library::WATTS_BY_NAMEPLATE == other::WATTS_BY_NAMEPLATE
+    && library::WATTS_BY_RECOVERY == other::WATTS_BY_RECOVERY
+);
+
 /// The rules in the order of their numbers, from 1, and the limits in sheet order.
 const STATUS_RULES: [(u8, &str); 7] = [
     (library::STATUS_BY_PERMISSION, "permission"),
