@@ -4,7 +4,7 @@
 # replay that is what its steps one by one are, an image that is what it was after it was carried over and back, or a refused call of C's that
 # writes no byte of what is lent to it, padding included. Rust's calls are held to that too. Every other step is an explained one, on the same
 # record; further lent records are made for the rules alone. Each way in which the recovery count moves, in which a rule is named (each rule, each limit,
-# each pair of powers that tie), and in which an image is carried over or refused, is a case as well: reached a hundred times, from C and from Rust.
+# each pair of powers that tie), and in which an image is carried over or refused, is a case as well: reached a hundred times, from C and from Rust. So is what the example programs carry.c and why.c make of an example.
 set -u
 cd "$(dirname "$0")/.." || exit 2
 out=target/library

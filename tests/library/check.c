@@ -2,8 +2,8 @@
  * form of the comparison program's mode `calls`; tests/library.sh holds the answers against that program's. What that mode does not have
  * is checked here: the sheet of spec 3.3 and the refused lines of spec 11.1, that a replay is what its steps one by one are, that a
  * refused call writes no byte of what is lent to it, bytes of padding among them, that an image carried over and back is what it was, and
- * that the calls reach each way in which the recovery count moves, a rule is named and an image is carried or refused. Every other step is an
- * explained one, on the same record. It prints 'N passed, M failed' for these. */
+ * that the calls reach each way in which the recovery count moves, a rule is named and an image is carried or refused, and that a rule is what its
+ * name in the header says. Every other step is an explained one, on the same record. It prints 'N passed, M failed' for these. */
 #include <inttypes.h>
 #include <stdio.h>
 #include <string.h>
