@@ -43,7 +43,7 @@ fn sample(event: i64, draws: &mut Draws) -> [u32; 7] {
         1 => sample[0] = near(500, 200),
         2 => sample[1] = near(1320, 100),
         3 => sample[2] = near(150, 90),
-        4 => sample[3] = near(58000, 500),
+        4 => sample[3] = near(57300, 800),
         5 => sample[3] = near(62000, 700),
         6 => sample[0] = near(4095, 3),
         _ => (),

@@ -178,7 +178,8 @@ static inline int step(board *b, const settings *s, const uint32_t *n) {
     bits |= count(&b->counter[8], s->wait, inside);
     /* The worst of the three phases' bands is the worst of the lowest's and the highest's. */
     uint32_t band = most(most(band_of[n[0]], band_of[n[1]]), band_of[n[2]]);
-    band = most(band, f - 58800 > 2400);
+    /* Outside 58800 to 61200 mandatory, outside 57000 to 62000 cease. */
+    band = most(band, (f - 58800 > 2400) + 2 * (f - 57000 > 5000));
     if (b->in_service) {
         if (!n[4] || bits > 1) {
             b->in_service = 0;

@@ -6,7 +6,8 @@
 //! beside this program, only the words of document 01 and of requests 1 and 2 of document 02, the
 //! interface that the tests need, and a list of what to test (docs/DECISIONS.md). Request 3 was added by
 //! a hand that had this program, the words of document 01 and of requests 1 to 3 of document 02, and the
-//! interface with its numbers. No code is shared.
+//! interface with its numbers. Request 4 was added by a hand that had this program, the words of
+//! document 01 and of requests 1 to 4 of document 02, and a list of what to test. No code is shared.
 //! Standard library only, one file:
 //!
 //!     rustc -O --edition 2021 board.rs            the program `board`
@@ -422,10 +423,15 @@ fn band_of_voltage(voltage: u32) -> Band {
     }
 }
 
+/// Far outside, on either side, it is cease (document 02, request 4). All that follows from it,
+/// such as no output and a recovery from 0, the step takes from the worst band.
 fn band_of_frequency(frequency: u32) -> Band {
     match frequency {
+        0..=56999 => Band::Cease,
+        57000..=58799 => Band::Mandatory,
         58800..=61200 => Band::Continuous,
-        _ => Band::Mandatory,
+        61201..=62000 => Band::Mandatory,
+        _ => Band::Cease,
     }
 }
 
@@ -1123,6 +1129,9 @@ mod tests {
     const LOW_DIP: [u32; 7] = [1000, 249, 1000, 60000, 1, 10000, 10000];
     const HIGH_SWELL: [u32; 7] = [1000, 1000, 1211, 60000, 1, 10000, 10000];
     const TOO_HIGH: [u32; 7] = [1441, 1000, 1000, 60000, 1, 10000, 10000];
+    /// Cease by its frequency alone: of the default sheet uf1 is broken, or of1 and of2.
+    const FAR_BELOW: [u32; 7] = [1000, 1000, 1000, 56999, 1, 10000, 10000];
+    const FAR_ABOVE: [u32; 7] = [1000, 1000, 1000, 62001, 1, 10000, 10000];
 
     /// The default sheet with line `number` (from 1) put in place of its own.
     fn sheet_with(number: usize, line: &str) -> String {
@@ -1917,8 +1926,12 @@ mod tests {
             ([250, 1000, 1000, 60000], MANDATORY), ([249, 1000, 1000, 60000], MOMENTARY),
             ([1210, 1000, 1000, 60000], CONTINUOUS), ([1211, 1000, 1000, 60000], MOMENTARY),
             ([1440, 1000, 1000, 60000], MOMENTARY), ([1441, 1000, 1000, 60000], CEASE),
-            ([1441, 0, 1000, 60000], CEASE), ([774, 1211, 1000, 50000], MOMENTARY),
-            ([249, 1000, 1000, 50000], MOMENTARY), ([0, 0, 0, 60000], MOMENTARY),
+            ([1441, 0, 1000, 60000], CEASE), ([774, 1211, 1000, 57000], MOMENTARY),
+            ([249, 1000, 1000, 57000], MOMENTARY), ([0, 0, 0, 60000], MOMENTARY),
+            ([1000, 1000, 1000, 57000], MANDATORY), ([1000, 1000, 1000, 62000], MANDATORY),
+            ([1000, 1000, 1000, 56999], CEASE), ([1000, 1000, 1000, 62001], CEASE),
+            ([774, 1211, 1000, 50000], CEASE), ([249, 1000, 1000, 50000], CEASE),
+            ([1441, 0, 1000, 50000], CEASE), ([774, 1000, 1000, 70000], CEASE),
         ];
         for ([a, b, c, frequency], status) in cases {
             let mut board = in_service(99);
@@ -2020,7 +2033,11 @@ mod tests {
 
     #[test]
     fn recovery_after_momentary_and_after_cease() {
-        for (stop, stopped) in [(LOW_DIP, MOMENTARY), (HIGH_SWELL, MOMENTARY), (TOO_HIGH, CEASE)] {
+        let all = [
+            (LOW_DIP, MOMENTARY), (HIGH_SWELL, MOMENTARY), (TOO_HIGH, CEASE), (FAR_BELOW, CEASE),
+            (FAR_ABOVE, CEASE),
+        ];
+        for (stop, stopped) in all {
             for stops in [1, 2, 15] {
                 let mut board = in_service(100);
                 for _ in 0..stops {
@@ -2037,7 +2054,7 @@ mod tests {
 
     #[test]
     fn recovery_in_mandatory() {
-        for stop in [LOW_DIP, TOO_HIGH] {
+        for stop in [LOW_DIP, TOO_HIGH, FAR_BELOW, FAR_ABOVE] {
             let mut board = in_service(100);
             recovering(&mut board, &stop);
             for k in 1..=45 {
@@ -2074,7 +2091,7 @@ mod tests {
     fn recovery_begins_anew_with_each_cessation() {
         let mut board = in_service(100);
         for k in 0..40 {
-            let stop = [LOW_DIP, HIGH_SWELL, TOO_HIGH][k % 3];
+            let stop = [LOW_DIP, HIGH_SWELL, TOO_HIGH, FAR_BELOW, FAR_ABOVE][k % 5];
             recovering(&mut board, &stop);
             assert_eq!(board.recovery, 0);
             for i in 1..=k {
@@ -2085,6 +2102,9 @@ mod tests {
         }
         assert_eq!(recovering(&mut board, &TOO_HIGH), (CEASE, 0, 0));
         assert_eq!(recovering(&mut board, &HIGH_SWELL), (MOMENTARY, 0, 0));
+        assert_eq!(recovering(&mut board, &FAR_BELOW), (CEASE, 0, 0));
+        assert_eq!(recovering(&mut board, &LOW_DIP), (MOMENTARY, 0, 0));
+        assert_eq!(recovering(&mut board, &FAR_ABOVE), (CEASE, 0, 0));
         assert_eq!(recovering(&mut board, &TOO_HIGH), (CEASE, 0, 0));
         assert_eq!(recovering(&mut board, &NORMAL), (CONTINUOUS, 1, 250));
     }
@@ -2106,9 +2126,9 @@ mod tests {
     #[test]
     fn a_trip_in_the_middle_of_recovery() {
         // By permission, in each band.
-        for stop in [LOW_DIP, TOO_HIGH] {
+        for stop in [LOW_DIP, TOO_HIGH, FAR_BELOW] {
             for k in 0..=40 {
-                for mut trip in [NORMAL, LOW_HERTZ, LOW_DIP, TOO_HIGH] {
+                for mut trip in [NORMAL, LOW_HERTZ, LOW_DIP, TOO_HIGH, FAR_BELOW, FAR_ABOVE] {
                     trip[4] = 0;
                     let mut board = in_service(100);
                     recovering(&mut board, &stop);
@@ -2145,7 +2165,9 @@ mod tests {
         for status in [0, 6, 255] {
             for recovery in 0..=255 {
                 let lent = Board { status, recovery, ..fresh() };
-                for sample in [NO_PERMISSION, LOW_HERTZ, LOW_DIP, TOO_HIGH] {
+                for sample in
+                    [NO_PERMISSION, LOW_HERTZ, LOW_DIP, TOO_HIGH, FAR_BELOW, FAR_ABOVE]
+                {
                     assert_eq!(recovering(&mut lent.clone(), &sample), (TRIPPED, 40, 0));
                 }
                 let mut board = lent;
@@ -2156,10 +2178,12 @@ mod tests {
             }
         }
         // A cessation right after the return counts from 0 like any other.
-        let mut board = fresh();
-        assert_eq!(recovering(&mut board, &NORMAL), (ENTERING, 40, 0));
-        assert_eq!(recovering(&mut board, &LOW_DIP), (MOMENTARY, 0, 0));
-        assert_eq!(recovering(&mut board, &NORMAL), (ENTERING, 1, 100));
+        for (stop, stopped) in [(LOW_DIP, MOMENTARY), (FAR_BELOW, CEASE), (FAR_ABOVE, CEASE)] {
+            let mut board = fresh();
+            assert_eq!(recovering(&mut board, &NORMAL), (ENTERING, 40, 0));
+            assert_eq!(recovering(&mut board, &stop), (stopped, 0, 0));
+            assert_eq!(recovering(&mut board, &NORMAL), (ENTERING, 1, 100));
+        }
     }
 
     #[test]
@@ -2171,8 +2195,12 @@ mod tests {
             ..quick_settings()
         };
         assert_eq!(check_settings(&settings), Ok(()));
+        let hertz = [
+            40000, 56999, 57000, 58799, 58800, 58999, 59000, 61000, 61001, 61200, 61201, 62000,
+            62001, 80000,
+        ];
         for code in 0..4096 {
-            for frequency in [58799, 58800, 58999, 59000, 61000, 61001, 61200, 61201] {
+            for frequency in hertz {
                 let sample = [code, 1000, 1000, frequency, 1, 10000, 10000];
                 let report = step(&mut fresh(), &settings, &sample).unwrap();
                 assert!(report.status == TRIPPED || report.status == ENTERING);
@@ -2260,10 +2288,12 @@ mod tests {
                 let mut board = Board { status, ramp, ..fresh() };
                 let report = step(&mut board, &quick_settings(), &NORMAL).unwrap();
                 assert_eq!((report.status, board.ramp, report.share), (CONTINUOUS, 100, 10000));
-                let mut board = Board { status, ramp: u32::MAX, ..fresh() };
-                let sample = [1000, 1000, 1000, 50000, 1, 10000, 10000];
-                let report = step(&mut board, &quick_settings(), &sample).unwrap();
-                assert_eq!((report.status, board.ramp, report.share), (MANDATORY, 100, 10000));
+                for (frequency, held) in [(57000, MANDATORY), (50000, CEASE), (70000, CEASE)] {
+                    let mut board = Board { status, ramp: u32::MAX, ..fresh() };
+                    let sample = [1000, 1000, 1000, frequency, 1, 10000, 10000];
+                    let report = step(&mut board, &quick_settings(), &sample).unwrap();
+                    assert_eq!((report.status, board.ramp, report.share), (held, 100, 10000));
+                }
             }
         }
     }
@@ -2279,6 +2309,7 @@ mod tests {
                     (NORMAL, (CONTINUOUS, count, watts)), (LOW_HERTZ, (MANDATORY, count, watts)),
                     (LOW_DIP, (MOMENTARY, 0, 0)), (HIGH_SWELL, (MOMENTARY, 0, 0)),
                     (TOO_HIGH, (CEASE, 0, 0)), (NO_PERMISSION, (TRIPPED, 40, 0)),
+                    (FAR_BELOW, (CEASE, 0, 0)), (FAR_ABOVE, (CEASE, 0, 0)),
                 ];
                 for (sample, answer) in expected {
                     assert_eq!(recovering(&mut lent.clone(), &sample), answer);
@@ -2642,7 +2673,7 @@ mod tests {
         // A cessation, forty steps of recovery, a trip in the middle of the next one.
         let mut board = in_service(100);
         assert_eq!(saved_and_carried(&board), 0);
-        for stop in [LOW_DIP, HIGH_SWELL, TOO_HIGH] {
+        for stop in [LOW_DIP, HIGH_SWELL, TOO_HIGH, FAR_BELOW, FAR_ABOVE] {
             recovering(&mut board, &stop);
             assert_eq!(saved_and_carried(&board), 11);
             for k in 1..=45 {
@@ -2656,7 +2687,8 @@ mod tests {
         recovering(&mut board, &NO_PERMISSION);
         assert_eq!(saved_and_carried(&board), 0);
         // Made histories, mostly of normal samples.
-        let others = [LOW_HERTZ, LOW_DIP, HIGH_SWELL, TOO_HIGH, NO_PERMISSION];
+        let others =
+            [LOW_HERTZ, LOW_DIP, HIGH_SWELL, TOO_HIGH, NO_PERMISSION, FAR_BELOW, FAR_ABOVE];
         let mut answers = [[0, 0]; 6]; // by status: carried, refused
         for seed in 0..50 {
             let mut board = fresh();
@@ -2745,7 +2777,10 @@ mod tests {
         // In every band, with and without completed limits beside it.
         for status in ENTERING..=CEASE {
             for counters in [[0; 9], [u32::MAX; 9]] {
-                for mut sample in [NORMAL, LOW_HERTZ, LOW_DIP, HIGH_SWELL, TOO_HIGH, [0; 7]] {
+                let samples = [
+                    NORMAL, LOW_HERTZ, LOW_DIP, HIGH_SWELL, TOO_HIGH, FAR_BELOW, FAR_ABOVE, [0; 7],
+                ];
+                for mut sample in samples {
                     sample[3] = sample[3].max(40000);
                     sample[4] = 0;
                     let mut board = Board { status, counters, ..in_service(100) };
@@ -2834,7 +2869,10 @@ mod tests {
         for status in [0, 6, 7, 128, 255] {
             for counters in [[0; 9], [u32::MAX; 9]] {
                 for permission in [0, 1] {
-                    for mut sample in [NORMAL, LOW_HERTZ, LOW_DIP, HIGH_SWELL, TOO_HIGH] {
+                    let samples = [
+                        NORMAL, LOW_HERTZ, LOW_DIP, HIGH_SWELL, TOO_HIGH, FAR_BELOW, FAR_ABOVE,
+                    ];
+                    for mut sample in samples {
                         if sample == NORMAL && permission == 1 {
                             continue;
                         }
@@ -2909,7 +2947,7 @@ mod tests {
                     assert_eq!((now, rules.status, rules.limit), (status, cause, 0));
                 }
                 // A mandatory frequency is the worst alone where all else is continuous.
-                for frequency in [40000, 58799, 61201, 80000] {
+                for frequency in [57000, 58799, 61201, 62000] {
                     let sample = [a, b, c, frequency, 1, 10000, 10000];
                     let (now, rules) = quickly(&mut in_service(100), &sample);
                     let expected = match status {
@@ -2917,6 +2955,13 @@ mod tests {
                         _ => (status, cause, 0),
                     };
                     assert_eq!((now, rules.status, rules.limit), expected);
+                }
+                // One far outside is, unless a voltage is cease too.
+                for frequency in [40000, 56999, 62001, 80000] {
+                    let sample = [a, b, c, frequency, 1, 10000, 10000];
+                    let (now, rules) = quickly(&mut in_service(100), &sample);
+                    let first = if status == CEASE { cause } else { STATUS_BY_FREQUENCY };
+                    assert_eq!((now, rules.status, rules.limit), (CEASE, first, 0));
                 }
             }
         }
@@ -2955,7 +3000,10 @@ mod tests {
     fn the_first_of_six_limits_that_equals_the_least() {
         for chosen in 1..64 {
             for far in [false, true] {
-                let causes = [(60000, STATUS_BY_LOWEST), (58799, STATUS_BY_FREQUENCY)];
+                let causes = [
+                    (60000, STATUS_BY_LOWEST), (58799, STATUS_BY_FREQUENCY),
+                    (57000, STATUS_BY_FREQUENCY), (62000, STATUS_BY_FREQUENCY),
+                ];
                 for (frequency, cause) in causes {
                     let (settings, mut board, sample) = six_limits(chosen, far, frequency);
                     let (report, found) = explained(&mut board, &settings, &sample);
@@ -2980,6 +3028,8 @@ mod tests {
                 (LOW_DIP, MOMENTARY, STATUS_BY_LOWEST),
                 (HIGH_SWELL, MOMENTARY, STATUS_BY_HIGHEST),
                 (TOO_HIGH, CEASE, STATUS_BY_HIGHEST),
+                (FAR_BELOW, CEASE, STATUS_BY_FREQUENCY),
+                (FAR_ABOVE, CEASE, STATUS_BY_FREQUENCY),
                 (NO_PERMISSION, TRIPPED, STATUS_BY_PERMISSION),
             ];
             for (mut sample, status, cause) in cases {
@@ -3042,7 +3092,7 @@ mod tests {
     #[test]
     fn the_recovery_holds_the_watts_down() {
         // Full ramp: for 39 steps; the fortieth has all six at 10000.
-        for stop in [LOW_DIP, HIGH_SWELL, TOO_HIGH] {
+        for stop in [LOW_DIP, HIGH_SWELL, TOO_HIGH, FAR_BELOW, FAR_ABOVE] {
             let mut board = in_service(100);
             quickly(&mut board, &stop);
             for k in 1..=45 {
@@ -3084,6 +3134,7 @@ mod tests {
         assert_eq!(next(&NORMAL), rules(STATUS_BY_RETURN, 0, WATTS_BY_SHARE));
         assert_eq!(next(&NORMAL), rules(STATUS_BY_LOWEST, 0, WATTS_BY_SHARE));
         assert_eq!(next(&LOW_HERTZ), rules(STATUS_BY_FREQUENCY, 0, WATTS_BY_SHARE));
+        assert_eq!(next(&FAR_BELOW), rules(STATUS_BY_FREQUENCY, 0, WATTS_BY_STATUS));
         assert_eq!(next(&LOW_DIP), rules(STATUS_BY_LOWEST, 0, WATTS_BY_STATUS));
         assert_eq!(next(&NO_PERMISSION), rules(STATUS_BY_PERMISSION, 0, WATTS_BY_STATUS));
         assert_eq!(next(&NO_PERMISSION), rules(STATUS_BY_WAIT, 0, WATTS_BY_STATUS));
@@ -3133,7 +3184,10 @@ mod tests {
             }
         }
         // Which status of service the record names plays no part.
-        for sample in [NORMAL, LOW_HERTZ, LOW_DIP, HIGH_SWELL, TOO_HIGH, NO_PERMISSION] {
+        let samples = [
+            NORMAL, LOW_HERTZ, LOW_DIP, HIGH_SWELL, TOO_HIGH, FAR_BELOW, FAR_ABOVE, NO_PERMISSION,
+        ];
+        for sample in samples {
             let entering = quickly(&mut in_service(70), &sample);
             for status in ENTERING..=CEASE {
                 assert_eq!(quickly(&mut Board { status, ..in_service(70) }, &sample), entering);
@@ -3210,7 +3264,10 @@ mod tests {
         let settings = quick_settings();
         let codes =
             [0, 249, 250, 700, 774, 775, 841, 1000, 1000, 1000, 1103, 1180, 1211, 1440, 1441];
-        let hertz = [40000, 56499, 58499, 58799, 59500, 60000, 60000, 60000, 61201, 62001, 80000];
+        let hertz = [
+            40000, 56499, 56999, 57000, 58499, 58799, 59500, 60000, 60000, 60000, 60000, 60000,
+            61201, 62000, 62001, 80000,
+        ];
         let powers = [0, 250, 5000, 9751];
         let mut by_status = [0; 8];
         let mut by_limit = [0; 9];
@@ -3254,6 +3311,527 @@ mod tests {
         assert!(by_status[0] == 0 && by_status[1..].iter().all(|&times| times > 50));
         assert!(by_limit.iter().all(|&times| times > 50));
         assert!(by_watts[0] == 0 && by_watts[1..].iter().all(|&times| times > 50));
+    }
+
+    // --- frequency far outside ---
+
+    /// Frequencies with the status of their own band and the limits of the default sheet that
+    /// they break (uf1, uf2, of1, of2). The first and last that are accepted, and the ends of
+    /// every band, of "hertz" and of each limit, with their neighbours.
+    const HERTZ: [(u32, u8, [u32; 4]); 33] = [
+        (40000, CEASE, [1, 1, 0, 0]), (40001, CEASE, [1, 1, 0, 0]),
+        (56499, CEASE, [1, 1, 0, 0]),
+        (56500, CEASE, [1, 0, 0, 0]), (56501, CEASE, [1, 0, 0, 0]),
+        (56998, CEASE, [1, 0, 0, 0]), (56999, CEASE, [1, 0, 0, 0]),
+        (57000, MANDATORY, [1, 0, 0, 0]), (57001, MANDATORY, [1, 0, 0, 0]),
+        (58499, MANDATORY, [1, 0, 0, 0]),
+        (58500, MANDATORY, [0; 4]), (58501, MANDATORY, [0; 4]),
+        (58798, MANDATORY, [0; 4]), (58799, MANDATORY, [0; 4]),
+        (58800, CONTINUOUS, [0; 4]), (58801, CONTINUOUS, [0; 4]),
+        (59499, CONTINUOUS, [0; 4]), (59500, CONTINUOUS, [0; 4]), (59501, CONTINUOUS, [0; 4]),
+        (60000, CONTINUOUS, [0; 4]),
+        (60099, CONTINUOUS, [0; 4]), (60100, CONTINUOUS, [0; 4]), (60101, CONTINUOUS, [0; 4]),
+        (61199, CONTINUOUS, [0; 4]), (61200, CONTINUOUS, [0; 4]),
+        (61201, MANDATORY, [0, 0, 1, 0]), (61202, MANDATORY, [0, 0, 1, 0]),
+        (61999, MANDATORY, [0, 0, 1, 0]), (62000, MANDATORY, [0, 0, 1, 0]),
+        (62001, CEASE, [0, 0, 1, 1]), (62002, CEASE, [0, 0, 1, 1]),
+        (79999, CEASE, [0, 0, 1, 1]), (80000, CEASE, [0, 0, 1, 1]),
+    ];
+
+    /// Three codes with the status of their own band and the voltage that is its cause, the
+    /// limits they break (uv1, uv2, ov1, ov2), and in the bands with output vars, watt curve
+    /// and nameplate.
+    type Volts = ([u32; 3], u8, u8, [u32; 4], i16, u16, u16);
+
+    const VOLTS: [Volts; 20] = [
+        ([1000, 1000, 1000], CONTINUOUS, STATUS_BY_LOWEST, [0; 4], 0, 10000, 10000),
+        ([841, 841, 841], CONTINUOUS, STATUS_BY_LOWEST, [0; 4], 4400, 10000, 8979),
+        ([775, 1000, 1000], CONTINUOUS, STATUS_BY_LOWEST, [0; 4], 1460, 10000, 9892),
+        ([1180, 1180, 1180], CONTINUOUS, STATUS_BY_LOWEST, [0; 4], -4400, 4760, 8979),
+        ([1210, 1210, 1210], CONTINUOUS, STATUS_BY_LOWEST, [0; 4], -4400, 2000, 8979),
+        ([774, 1000, 1000], MANDATORY, STATUS_BY_LOWEST, [1, 0, 0, 0], 1474, 10000, 9890),
+        ([700, 700, 1210], MANDATORY, STATUS_BY_LOWEST, [1, 0, 0, 0], 4078, 10000, 9130),
+        ([1210, 774, 1210], MANDATORY, STATUS_BY_LOWEST, [1, 0, 0, 0], -476, 10000, 9988),
+        ([250, 250, 250], MANDATORY, STATUS_BY_LOWEST, [1, 0, 0, 0], 4400, 10000, 8979),
+        ([249, 1000, 1000], MOMENTARY, STATUS_BY_LOWEST, [1, 1, 0, 0], 0, 0, 0),
+        ([0, 0, 0], MOMENTARY, STATUS_BY_LOWEST, [1, 1, 0, 0], 0, 0, 0),
+        ([249, 1000, 1440], MOMENTARY, STATUS_BY_LOWEST, [1, 1, 1, 0], 0, 0, 0),
+        ([1211, 1211, 1211], MOMENTARY, STATUS_BY_LOWEST, [0, 0, 1, 0], 0, 0, 0),
+        ([1440, 1440, 1440], MOMENTARY, STATUS_BY_LOWEST, [0, 0, 1, 0], 0, 0, 0),
+        ([1000, 1211, 1000], MOMENTARY, STATUS_BY_HIGHEST, [0, 0, 1, 0], 0, 0, 0),
+        ([774, 1211, 1000], MOMENTARY, STATUS_BY_HIGHEST, [1, 0, 1, 0], 0, 0, 0),
+        ([1000, 1000, 1441], CEASE, STATUS_BY_HIGHEST, [0, 0, 1, 1], 0, 0, 0),
+        ([0, 4095, 1000], CEASE, STATUS_BY_HIGHEST, [1, 1, 1, 1], 0, 0, 0),
+        ([1441, 1441, 1441], CEASE, STATUS_BY_LOWEST, [0, 0, 1, 1], 0, 0, 0),
+        ([4095, 4095, 4095], CEASE, STATUS_BY_LOWEST, [0, 0, 1, 1], 0, 0, 0),
+    ];
+
+    /// Does this for every frequency beside every three codes.
+    fn for_hertz_and_volts(check: impl Fn((u32, u8, [u32; 4]), Volts)) {
+        for hertz in HERTZ {
+            for volts in VOLTS {
+                check(hertz, volts);
+            }
+        }
+    }
+
+    /// The nine counters after a step on a record where each was 3. The ninth has a wait of 4.
+    fn three_and_one(hertz: (u32, u8, [u32; 4]), volts: Volts, permission: u32) -> [u32; 9] {
+        let broken = [volts.3, hertz.2].concat();
+        let within = [[1000; 3], [841; 3]].contains(&volts.0)
+            && (59500..=60100).contains(&hertz.0)
+            && permission == 1;
+        std::array::from_fn(|i| 4 * broken.get(i).copied().unwrap_or(u32::from(within)))
+    }
+
+    /// Steps the board; the report must show the record, the image every byte of it.
+    fn imaged(board: &mut Board, settings: &Settings, sample: &[u32]) -> (Report, Rules) {
+        let (report, rules) = explained(board, settings, sample);
+        let Report { status, share, recovery, watts, vars, .. } = report;
+        assert_eq!(i64::from(share), 10000 * i64::from(board.ramp) / i64::from(settings.ramp));
+        let counters: String = board.counters.map(|count| format!("{:08x}", count)).concat();
+        let fields = format!("{:08x}{:04x}{:04x}{:02x}", board.ramp, watts, vars, recovery);
+        let mut image = [0xAA; 46];
+        save(board, &mut image).unwrap();
+        assert_eq!(hex(&image), format!("{:02x}{}{}", status, counters, fields));
+        (report, rules)
+    }
+
+    fn sample_of(codes: [u32; 3], frequency: u32, permission: u32) -> [u32; 7] {
+        let [a, b, c] = codes;
+        [a, b, c, frequency, permission, 10000, 10000]
+    }
+
+    #[test]
+    fn every_accepted_frequency() {
+        for frequency in 40000..=80000 {
+            let status = match frequency {
+                40000..57000 => CEASE,
+                57000..58800 => MANDATORY,
+                58800..61201 => CONTINUOUS,
+                61201..62001 => MANDATORY,
+                _ => CEASE,
+            };
+            let sample = sample_of([1000; 3], frequency, 1);
+            let (report, rules) = explained(&mut in_service(99), &quick_settings(), &sample);
+            assert_eq!(report.status, status, "{}", frequency);
+            let cause = if status == CONTINUOUS { STATUS_BY_LOWEST } else { STATUS_BY_FREQUENCY };
+            assert_eq!(rules.status, cause);
+            let numbers = match status {
+                CONTINUOUS => (10000, 40, 10000, WATTS_BY_AVAILABLE),
+                MANDATORY => (9900, 40, 9900, WATTS_BY_SHARE),
+                _ => (9900, 0, 0, WATTS_BY_STATUS),
+            };
+            assert_eq!((report.share, report.recovery, report.watts, rules.watts), numbers);
+            // A tripped board returns within "hertz" and shows no band elsewhere.
+            let (report, rules) = explained(&mut fresh(), &quick_settings(), &sample);
+            let (status, rule) = match frequency {
+                59500..60101 => (ENTERING, STATUS_BY_RETURN),
+                _ => (TRIPPED, STATUS_BY_WAIT),
+            };
+            assert_eq!((report.status, rules.status), (status, rule), "{}", frequency);
+            assert_eq!((report.share, report.recovery, report.watts), (0, 40, 0));
+        }
+        for frequency in [39999, 80001] {
+            let mut board = in_service(99);
+            let sample = sample_of([1000; 3], frequency, 1);
+            assert_eq!(step_explained(&mut board, &quick_settings(), &sample), Err(5));
+            assert_eq!(board, in_service(99));
+        }
+    }
+
+    #[test]
+    fn hertz_beside_volts_in_service() {
+        let settings = Settings { wait: 4, ..quick_settings() };
+        for_hertz_and_volts(|hertz, volts| {
+            let (codes, by_volts, cause, _, vars, curve, nameplate) = volts;
+            let sample = sample_of(codes, hertz.0, 1);
+            let counters = three_and_one(hertz, volts, 1);
+            // The worse of the two; a voltage is named where the frequency is not worse.
+            let worst = by_volts.max(hertz.1);
+            let feeds = worst == CONTINUOUS || worst == MANDATORY;
+            let rule = if hertz.1 > by_volts { STATUS_BY_FREQUENCY } else { cause };
+            for (ramp, recovery) in [(100, 40), (50, 40), (99, 39), (100, 7), (50, 19), (0, 0)] {
+                let mut board = Board { counters: [3; 9], recovery, ..in_service(ramp) };
+                let (report, found) = imaged(&mut board, &settings, &sample);
+                let ramp = if worst == CONTINUOUS { 100.min(ramp + 1) } else { ramp };
+                let recovery = if feeds { 40.min(recovery + 1) } else { 0 };
+                let status = if worst == CONTINUOUS && ramp < 100 { ENTERING } else { worst };
+                let share = 100 * ramp as u16;
+                let six = [10000, 10000, share, curve, nameplate, 250 * u16::from(recovery)];
+                let least = *six.iter().min().unwrap();
+                let first = six.iter().position(|&limit| limit == least).unwrap() as u8;
+                let (watts, vars, by) = match feeds {
+                    true => (least, vars, WATTS_BY_AVAILABLE + first),
+                    false => (0, 0, WATTS_BY_STATUS),
+                };
+                let expected = Board { status, counters, ramp, watts, vars, recovery };
+                assert_eq!(board, expected, "{:?}", sample);
+                let mut bits = [false; 9];
+                bits[8] = counters[8] == 4;
+                assert_eq!(report, Report { status, bits, share, recovery, watts, vars });
+                assert_eq!(found, rules(rule, 0, by), "{:?}", sample);
+            }
+        });
+    }
+
+    #[test]
+    fn hertz_beside_volts_when_tripped() {
+        let settings = Settings { wait: 4, ..quick_settings() };
+        for_hertz_and_volts(|hertz, volts| {
+            for (status, recovery) in [(0, 40), (0, 0), (6, 7), (255, 255)] {
+                for permission in [0, 1] {
+                    let sample = sample_of(volts.0, hertz.0, permission);
+                    let counters = three_and_one(hertz, volts, permission);
+                    let lent = Board { status, counters: [3; 9], recovery, ..in_service(50) };
+                    let mut board = lent;
+                    let (report, found) = imaged(&mut board, &settings, &sample);
+                    let mut bits = [false; 9];
+                    bits[8] = counters[8] == 4;
+                    // No band shows, nor a recovery from 0.
+                    let (status, vars, expected) = match bits[8] {
+                        true => (ENTERING, volts.4, rules(STATUS_BY_RETURN, 0, WATTS_BY_SHARE)),
+                        false => (TRIPPED, 0, fresh_rules()),
+                    };
+                    let after = Board { status, counters, vars, ..fresh() };
+                    assert_eq!(board, after, "{:?}", sample);
+                    assert_eq!(report, Report { status, bits, vars, ..fresh_report() });
+                    assert_eq!(found, expected, "{:?}", sample);
+                }
+            }
+        });
+    }
+
+    #[test]
+    fn hertz_beside_volts_without_permission() {
+        let settings = Settings { wait: 4, ..quick_settings() };
+        for_hertz_and_volts(|hertz, volts| {
+            for status in ENTERING..=CEASE {
+                for recovery in [0, 7, 40] {
+                    let lent = Board { status, counters: [3; 9], recovery, ..in_service(50) };
+                    let mut board = lent;
+                    let sample = sample_of(volts.0, hertz.0, 0);
+                    let (report, found) = imaged(&mut board, &settings, &sample);
+                    // Tripped, so it has recovered, whatever the frequency.
+                    assert_eq!(report, fresh_report());
+                    let counters = three_and_one(hertz, volts, 0);
+                    assert_eq!(board, Board { counters, ..fresh() });
+                    assert_eq!(found, rules(STATUS_BY_PERMISSION, 0, WATTS_BY_STATUS));
+                }
+            }
+        });
+    }
+
+    #[test]
+    fn hertz_beside_volts_with_limits_that_run_out() {
+        // Every limit lacks one step, so each that is broken now runs out now.
+        let settings = quick_settings();
+        for_hertz_and_volts(|hertz, volts| {
+            let broken = [volts.3, hertz.2].concat();
+            let times: [u32; 8] = std::array::from_fn(|i| broken[i] * settings.trips[i].time);
+            let sample = sample_of(volts.0, hertz.0, 1);
+            for recovery in [0, 7, 40] {
+                let all = all_but_one_step(&settings, &[0, 1, 2, 3, 4, 5, 6, 7]);
+                let mut board = Board { recovery, ..all };
+                let (report, found) = imaged(&mut board, &settings, &sample);
+                assert_eq!(board.counters[..8], times, "{:?}", sample);
+                assert_eq!(report.bits[..8], std::array::from_fn::<bool, 8, _>(|i| broken[i] == 1));
+                let Some(first) = broken.iter().position(|&limit| limit == 1) else {
+                    // With the default limits, far outside one is always broken.
+                    assert!(report.status == CONTINUOUS || report.status == MANDATORY);
+                    continue;
+                };
+                let expected = rules(STATUS_BY_LIMIT, first as u8 + 1, WATTS_BY_STATUS);
+                assert_eq!((report.status, found), (TRIPPED, expected), "{:?}", sample);
+                let zero = (report.share, report.recovery, report.watts, report.vars, board.ramp);
+                assert_eq!(zero, (0, 40, 0, 0, 0));
+                // Waiting from then on, the counters full.
+                let (report, found) = imaged(&mut board, &settings, &sample);
+                assert_eq!((report.status, report.recovery, found), (TRIPPED, 40, fresh_rules()));
+                assert_eq!(board.counters[..8], times);
+            }
+        });
+    }
+
+    #[test]
+    fn uf2_and_of2_run_out_far_outside() {
+        let cases =
+            [(40000, [4, 5]), (56499, [4, 5]), (62001, [6, 7]), (70000, [6, 7]), (80000, [6, 7])];
+        for (frequency, [slow, fast]) in cases {
+            let sample = sample_of([1000; 3], frequency, 1);
+            let mut board = in_service(70);
+            let counters = |first: u32, second: u32| {
+                let mut counters = [0; 9];
+                (counters[slow], counters[fast]) = (first, second);
+                counters
+            };
+            for k in 1..=15 {
+                let (report, found) = imaged(&mut board, &quick_settings(), &sample);
+                assert_eq!((report.status, report.share, report.recovery), (CEASE, 7000, 0));
+                assert_eq!((board.counters, report.bits), (counters(k, k), [false; 9]));
+                assert_eq!(found, rules(STATUS_BY_FREQUENCY, 0, WATTS_BY_STATUS));
+            }
+            for k in 16..=20 {
+                let (report, found) = imaged(&mut board, &quick_settings(), &sample);
+                assert_eq!((report.status, report.share, report.recovery), (TRIPPED, 0, 40));
+                assert_eq!(board.counters, counters(k, 16));
+                assert_eq!(report.bits, std::array::from_fn(|i| i == fast));
+                let tripped = rules(STATUS_BY_LIMIT, fast as u8 + 1, WATTS_BY_STATUS);
+                assert_eq!(found, if k == 16 { tripped } else { fresh_rules() });
+            }
+            // Back with ramp 0, and recovered.
+            assert_eq!(recovering(&mut board, &NORMAL), (ENTERING, 40, 0));
+            assert_eq!(board.counters, [0, 0, 0, 0, 0, 0, 0, 0, 1]);
+            assert_eq!(recovering(&mut board, &NORMAL), (ENTERING, 40, 100));
+        }
+    }
+
+    #[test]
+    fn uf1_and_of1_run_out_far_outside() {
+        // Alone: uf2 is not broken there, of2 lies further out.
+        let mut settings = quick_settings();
+        settings.trips[4].time = 18000;
+        settings.trips[6].time = 18000;
+        settings.trips[7].limit = 66000;
+        for (frequency, i) in [(56500, 4), (56999, 4), (62001, 6), (66000, 6)] {
+            let sample = sample_of([1000; 3], frequency, 1);
+            let mut board = in_service(70);
+            for k in 1..18000 {
+                let (report, found) = explained(&mut board, &settings, &sample);
+                assert_eq!((report.status, report.recovery, board.ramp), (CEASE, 0, 70));
+                assert_eq!((board.counters[i], report.bits), (k, [false; 9]));
+                assert_eq!(found, rules(STATUS_BY_FREQUENCY, 0, WATTS_BY_STATUS));
+            }
+            let (report, found) = explained(&mut board, &settings, &sample);
+            assert_eq!((report.status, report.recovery, report.bits[i]), (TRIPPED, 40, true));
+            assert_eq!(found, rules(STATUS_BY_LIMIT, i as u8 + 1, WATTS_BY_STATUS));
+            let only: [u32; 9] = std::array::from_fn(|j| if i == j { 18000 } else { 0 });
+            assert_eq!(board.counters, only);
+        }
+    }
+
+    /// Frequency limits so far out that far outside need not break any.
+    fn wide_settings() -> Settings {
+        let mut settings = quick_settings();
+        for (i, limit) in [(4, 50000), (5, 50000), (6, 66000), (7, 66000)] {
+            settings.trips[i].limit = limit;
+        }
+        settings
+    }
+
+    #[test]
+    fn no_limit_runs_out_far_outside() {
+        let settings = wide_settings();
+        for frequency in [50000, 50001, 56999, 62001, 65999, 66000] {
+            let sample = sample_of([1000; 3], frequency, 1);
+            let mut board = Board { counters: [u32::MAX; 9], ..in_service(70) };
+            for _ in 0..20000 {
+                let (report, found) = explained(&mut board, &settings, &sample);
+                let ceased =
+                    Report { status: CEASE, share: 7000, recovery: 0, ..fresh_report() };
+                assert_eq!(report, ceased);
+                assert_eq!((board.counters, board.ramp), ([0; 9], 70));
+                assert_eq!(found, rules(STATUS_BY_FREQUENCY, 0, WATTS_BY_STATUS));
+            }
+            let (report, _) = explained(&mut board, &settings, &NORMAL);
+            assert_eq!((report.status, report.share), (ENTERING, 7100));
+            assert_eq!((report.recovery, report.watts), (1, 250));
+        }
+        // One further they are broken.
+        for (frequency, broken) in [(49999, [1, 1, 0, 0]), (66001, [0, 0, 1, 1])] {
+            let mut board = in_service(70);
+            let (report, _) =
+                explained(&mut board, &settings, &sample_of([1000; 3], frequency, 1));
+            assert_eq!((report.status, &board.counters[4..8]), (CEASE, &broken[..]));
+        }
+    }
+
+    #[test]
+    fn counters_run_on_across_the_ends_of_cease() {
+        // A limit on the very end: 57000 and 62000 do not break it, one further does.
+        let mut settings = quick_settings();
+        settings.trips[5].limit = 57000;
+        let cases = [(57000, 56999, [4, 5]), (62000, 62001, [6, 7])];
+        for (inside, outside, [slow, fast]) in cases {
+            let mut board = in_service(70);
+            for k in 1..=200 {
+                let far = k % 2 == 0;
+                let frequency = if far { outside } else { inside };
+                let sample = sample_of([1000; 3], frequency, 1);
+                let (report, found) = imaged(&mut board, &settings, &sample);
+                let (status, recovery, watts, by) = match (far, k) {
+                    (true, _) => (CEASE, 0, 0, WATTS_BY_STATUS),
+                    (false, 1) => (MANDATORY, 40, 7000, WATTS_BY_SHARE),
+                    (false, _) => (MANDATORY, 1, 250, WATTS_BY_RECOVERY),
+                };
+                assert_eq!((report.status, report.recovery), (status, recovery));
+                assert_eq!((report.share, report.watts), (7000, watts));
+                assert_eq!((board.counters[slow], board.counters[fast]), (k, u32::from(far)));
+                assert_eq!(found, rules(STATUS_BY_FREQUENCY, 0, by));
+            }
+        }
+        // From one side to the other the counters change over.
+        let mut board = in_service(70);
+        for _ in 0..20 {
+            for (sample, counters) in [(FAR_BELOW, [1, 1, 0, 0]), (FAR_ABOVE, [0, 0, 1, 1])] {
+                let (report, _) = imaged(&mut board, &settings, &sample);
+                assert_eq!((report.status, report.recovery), (CEASE, 0));
+                assert_eq!(board.counters[4..8], counters);
+            }
+        }
+    }
+
+    #[test]
+    fn of2_runs_out_in_mandatory_and_in_cease() {
+        // Its lowest limit lies inside: 62000 breaks it and still feeds.
+        let mut settings = quick_settings();
+        settings.trips[7].limit = 61800;
+        for pattern in [[62000, 62000], [62001, 62001], [62000, 62001], [61801, 80000]] {
+            let mut board = in_service(100);
+            for k in 1..=16 {
+                let frequency = pattern[k % 2];
+                let sample = sample_of([1000; 3], frequency, 1);
+                let (report, found) = imaged(&mut board, &settings, &sample);
+                assert_eq!(board.counters[7], k as u32);
+                if k == 16 {
+                    assert_eq!((report.status, report.recovery), (TRIPPED, 40));
+                    assert_eq!(found, rules(STATUS_BY_LIMIT, 8, WATTS_BY_STATUS));
+                } else if frequency > 62000 {
+                    assert_eq!((report.status, report.recovery, report.watts), (CEASE, 0, 0));
+                } else {
+                    assert_eq!((report.status, report.watts > 0), (MANDATORY, true));
+                }
+            }
+        }
+    }
+
+    #[test]
+    fn the_return_waits_far_outside() {
+        let settings = Settings { wait: 3, ..quick_settings() };
+        let others = HERTZ.iter().filter(|hertz| !(59500..=60100).contains(&hertz.0));
+        for &(frequency, band, _) in others {
+            let sample = sample_of([1000; 3], frequency, 1);
+            // Tripped: two steps are lost, and three have to follow.
+            let mut board = fresh();
+            for count in [1, 2] {
+                explained(&mut board, &settings, &NORMAL);
+                assert_eq!(board.counters[8], count);
+            }
+            let (report, found) = explained(&mut board, &settings, &sample);
+            assert_eq!((report.status, report.bits[8], board.counters[8]), (TRIPPED, false, 0));
+            assert_eq!((report.recovery, found), (40, fresh_rules()));
+            for count in 1..=3 {
+                let (report, _) = explained(&mut board, &settings, &NORMAL);
+                assert_eq!((board.counters[8], report.bits[8]), (count, count == 3));
+                assert_eq!(report.status, if count == 3 { ENTERING } else { TRIPPED });
+                assert_eq!((report.recovery, report.watts), (40, 0));
+            }
+            // In service it is counted too, and begins anew.
+            let (report, _) = explained(&mut board, &settings, &sample);
+            assert_eq!((board.counters[8], report.bits[8]), (0, false));
+            assert_eq!(report.status, if band == CONTINUOUS { ENTERING } else { band });
+            for count in 1..=5 {
+                explained(&mut board, &settings, &NORMAL);
+                assert_eq!(board.counters[8], count.min(3));
+            }
+            // A full count of the record does not outlast such a step, nor let it return.
+            for status in [TRIPPED, 255] {
+                let mut board = Board { status, counters: [u32::MAX; 9], ..fresh() };
+                let (report, found) = explained(&mut board, &settings, &sample);
+                assert_eq!((report.status, board.counters[8]), (TRIPPED, 0));
+                assert_eq!(found, fresh_rules());
+            }
+        }
+    }
+
+    #[test]
+    fn recovery_from_far_outside() {
+        // Whatever the voltages, and both with and without a limit broken beside it.
+        let (quick, wide) = (quick_settings(), wide_settings());
+        let far = HERTZ.iter().filter(|hertz| hertz.1 == CEASE);
+        for &(frequency, ..) in far {
+            for (codes, ..) in VOLTS {
+                for settings in [quick, wide] {
+                    let mut board = in_service(100);
+                    let sample = sample_of(codes, frequency, 1);
+                    for _ in 0..2 {
+                        let (report, _) = explained(&mut board, &settings, &sample);
+                        let stopped = (report.status, report.recovery, report.watts, report.vars);
+                        assert_eq!(stopped, (CEASE, 0, 0, 0));
+                    }
+                    // In the mandatory band up to its ends, then in the continuous one.
+                    for k in 1..=45u8 {
+                        let frequency = [57000, 62000, 60000][usize::from(k) % 3];
+                        let sample = sample_of([841; 3], frequency, 1);
+                        let (report, found) = explained(&mut board, &settings, &sample);
+                        let by_hertz = frequency != 60000;
+                        let status = if by_hertz { MANDATORY } else { CONTINUOUS };
+                        assert_eq!((report.status, report.recovery), (status, k.min(40)));
+                        let recovered = 250 * u16::from(k.min(40));
+                        assert_eq!((report.watts, report.vars), (recovered.min(8979), 4400));
+                        let cause = if by_hertz { STATUS_BY_FREQUENCY } else { STATUS_BY_LOWEST };
+                        let by = if k < 36 { WATTS_BY_RECOVERY } else { WATTS_BY_NAMEPLATE };
+                        assert_eq!(found, rules(cause, 0, by));
+                    }
+                }
+            }
+        }
+    }
+
+    #[test]
+    fn the_ramp_is_held_far_outside() {
+        for ramp in 0..=100 {
+            for sample in [FAR_BELOW, FAR_ABOVE] {
+                let mut board = in_service(ramp);
+                for _ in 0..10 {
+                    let (report, _) = imaged(&mut board, &quick_settings(), &sample);
+                    assert_eq!((report.status, board.ramp), (CEASE, ramp));
+                    assert_eq!(u32::from(report.share), 100 * ramp);
+                }
+                // It goes on from there.
+                let (report, _) = imaged(&mut board, &quick_settings(), &NORMAL);
+                assert_eq!(board.ramp, 100.min(ramp + 1));
+                assert_eq!(report.status, if ramp < 99 { ENTERING } else { CONTINUOUS });
+            }
+        }
+    }
+
+    #[test]
+    fn far_outside_in_the_program() {
+        let at = |frequency: u32| format!("(at (1000 1000 1000) {frequency} 1 10000 10000)\n");
+        let hertz = [57000, 56999, 62000, 62001, 40000, 39999, 80000, 80001];
+        let samples = GOOD.repeat(101)
+            + &hertz.map(at).concat()
+            + "(at (841 841 841) 57000 1 10000 10000)\n"
+            + GOOD
+            + &at(62001).repeat(17)
+            + &at(56999)
+            + GOOD
+            + &at(56999)
+            + GOOD;
+        let answers = after_quick_sheet(&samples);
+        let lines: Vec<&str> = answers.lines().skip(101).collect();
+        let mut expected = vec![
+            "(report mandatory 000000000 10000 40 10000 0)",
+            "(report cease 000000000 10000 0 0 0)",
+            "(report mandatory 000000000 10000 1 250 0)",
+            "(report cease 000000000 10000 0 0 0)",
+            "(report cease 000000000 10000 0 0 0)",
+            "(refused 5 120)",
+            "(report cease 000000000 10000 0 0 0)",
+            "(refused 5 122)",
+            "(report mandatory 000000000 10000 1 250 4400)",
+            "(report continuous 000000001 10000 2 500 0)",
+        ];
+        expected.extend(["(report cease 000000000 10000 0 0 0)"; 15]);
+        expected.extend(["(report tripped 000000010 0 40 0 0)"; 2]);
+        expected.extend([
+            "(report tripped 000000000 0 40 0 0)",
+            "(report entering 000000001 0 40 0 0)",
+            "(report cease 000000000 0 0 0 0)",
+            "(report entering 000000001 100 1 100 0)",
+        ]);
+        assert_eq!(lines, expected);
     }
 
     // --- calls ---
@@ -3402,11 +3980,52 @@ mod tests {
     }
 
     #[test]
+    fn calls_that_explain_far_outside() {
+        let settings: String =
+            quick_settings().pairs().iter().map(|(a, b)| format!(" {} {}", a, b)).collect();
+        let record = "record 2 0 0 0 0 0 0 0 0 1 100 10000 0 40\n";
+        // The sample; report and rules; the counters that are 1, from 0; in the image ramp,
+        // watts and vars, then recovery.
+        let full = "0000006427100000";
+        let none = "0000006400000000";
+        let gone = "0000000000000000";
+        let rows: [(&str, &str, &[usize], &str, u8); 9] = [
+            ("1000 1000 1000 57000 1", "3 000000000 10000 40 10000 0 rules 7 0 2", &[4], full, 40),
+            ("1000 1000 1000 56999 1", "5 000000000 10000 0 0 0 rules 7 0 1", &[4], none, 0),
+            ("1000 1000 1000 62000 1", "3 000000000 10000 40 10000 0 rules 7 0 2", &[6], full, 40),
+            ("1211 1000 1000 56999 1", "5 000000000 10000 0 0 0 rules 7 0 1", &[2, 4], none, 0),
+            ("1441 1000 1000 56999 1", "5 000000000 10000 0 0 0 rules 6 0 1", &[2, 3, 4], none, 0),
+            ("1441 1441 1441 62001 1", "5 000000000 10000 0 0 0 rules 5 0 1", &[2, 3, 6, 7], none, 0),
+            ("1000 1000 1000 40000 1", "5 000000000 10000 0 0 0 rules 7 0 1", &[4, 5], none, 0),
+            ("1000 1000 1000 80000 1", "5 000000000 10000 0 0 0 rules 7 0 1", &[6, 7], none, 0),
+            ("1000 1000 1000 80000 0", "0 000000000 0 40 0 0 rules 1 0 1", &[6, 7], gone, 40),
+        ];
+        for (sample, words, ones, numbers, recovery) in rows {
+            let counters: String =
+                (0..9).map(|i| format!("{:08x}", u32::from(ones.contains(&i)))).collect();
+            let image = format!("0{}{counters}{numbers}{recovery:02x}", &words[..1]);
+            let calls = format!("settings{settings}\n{record}explain {sample} 10000 10000\n");
+            let expected = format!("ok\nok\nreport {words} {image}\n");
+            assert_eq!(answers(&calls), expected, "{}", sample);
+            // Saved it is the same, and goes back where it has recovered.
+            let calls = format!("{calls}save 46\nback 45 {image}\n");
+            let back = match recovery {
+                40 => format!("carried {}", &image[..90]),
+                _ => format!("refused 11 {}", "aa".repeat(45)),
+            };
+            assert_eq!(answers(&calls), format!("{expected}saved {image}\n{back}\n"));
+        }
+    }
+
+    #[test]
     fn calls_that_explain_are_steps() {
         // One history by `step` and by `explain`, with refused calls and `rules` in between.
         let settings: String =
             quick_settings().pairs().iter().map(|(a, b)| format!(" {} {}", a, b)).collect();
-        let others = [LOW_HERTZ, LOW_DIP, HIGH_SWELL, TOO_HIGH, NO_PERMISSION, [4096; 7], [0; 7]];
+        let others = [
+            LOW_HERTZ, LOW_DIP, HIGH_SWELL, TOO_HIGH, NO_PERMISSION, FAR_BELOW, FAR_ABOVE,
+            [4096; 7], [0; 7],
+        ];
         let mut steps = format!("settings{settings}\n");
         let mut explains = steps.clone();
         for choice in made(7, 2000) {

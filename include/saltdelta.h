@@ -73,7 +73,7 @@ enum {
     SALTDELTA_CONTINUOUS = 2, /* in service, the ramp full */
     SALTDELTA_MANDATORY = 3,  /* mandatory operation */
     SALTDELTA_MOMENTARY = 4,  /* momentary cessation */
-    SALTDELTA_CEASE = 5       /* cease to energize */
+    SALTDELTA_CEASE = 5       /* cease to energize, by voltage or by frequency (spec 6.7, 6.8) */
 };
 
 /* Places in saltdelta_settings.trip and in saltdelta_board.counters; of the counters the last is the ninth, toward return to service. */

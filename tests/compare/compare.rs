@@ -14,11 +14,14 @@ mod board;
 mod damage;
 #[path = "draw.rs"]
 mod draw;
+#[path = "edges.rs"]
+mod edges;
 #[path = "feed.rs"]
 mod feed;
 #[path = "runs.rs"]
 mod runs;
 
+use edges::{Edges, Step};
 use feed::Feed;
 use std::env;
 use std::fs;
@@ -47,7 +50,7 @@ impl Input {
 pub type Sink<'a> = &'a mut dyn FnMut(Input);
 
 /// The kinds of inputs, quick ones first.
-const MAKERS: [fn(Sink); 18] = [
+const MAKERS: [fn(Sink); 19] = [
     runs::sample_numbers,
     runs::bands,
     runs::curves,
@@ -64,6 +67,7 @@ const MAKERS: [fn(Sink); 18] = [
     damage::pipe_cuts,
     damage::pipe_blocks,
     damage::long_lines,
+    runs::far_outside,
     runs::ramps,
     runs::clearing,
 ];
@@ -74,15 +78,16 @@ const REACHED_AT_LEAST: usize = 100;
 const SIGNALS_AT_MOST: usize = 3;
 const BITS: [&str; 9] = ["uv1", "uv2", "ov1", "ov2", "uf1", "uf2", "of1", "of2", "ready"];
 
-/// What a report line says of the recovery.
+/// What a report line says, but for share and vars.
 #[derive(Clone, Copy)]
 struct Said {
     status: u8,
+    bits: u16,
     recovery: usize,
     watts: usize,
 }
 
-const FRESH: Said = Said { status: board::TRIPPED, recovery: 40, watts: 0 };
+const FRESH: Said = Said { status: board::TRIPPED, bits: 0, recovery: 40, watts: 0 };
 
 impl Said {
     fn in_service(self) -> bool {
@@ -124,7 +129,12 @@ fn number(word: &[u8]) -> usize {
     std::str::from_utf8(word).ok().and_then(|digits| digits.parse().ok()).expect("a number")
 }
 
-/// What the inputs reached, counted in what both programs wrote.
+/// The numbers of an accepted sample's line.
+fn numbers(line: &[u8]) -> Vec<u32> {
+    line.split(|byte| !byte.is_ascii_digit()).filter(|word| !word.is_empty()).map(|word| number(word) as u32).collect()
+}
+
+/// What the inputs reached, counted in what both programs wrote, at the edges of the frequency's regions by the samples too.
 #[derive(Default)]
 struct Reached {
     kinds: Vec<(&'static str, usize)>,
@@ -134,6 +144,7 @@ struct Reached {
     refusals: [usize; 8],
     bits: [usize; 9],
     recoveries: [usize; RECOVERIES.len()],
+    edges: Edges,
 }
 
 impl Reached {
@@ -146,9 +157,11 @@ impl Reached {
         self.bytes += input.bytes.len();
     }
 
-    fn output(&mut self, output: &[u8]) {
+    /// What an input's lines after the sheet were answered, one each; a refused sheet has one answer.
+    fn output(&mut self, input: &[u8], output: &[u8]) {
         let mut before = FRESH;
-        for line in output.split(|&byte| byte == b'\n').filter(|line| !line.is_empty()) {
+        let samples = input.split(|&byte| byte == b'\n').skip(13).chain(std::iter::repeat(&b""[..]));
+        for (line, sample) in output.split(|&byte| byte == b'\n').filter(|line| !line.is_empty()).zip(samples) {
             let words: Vec<&[u8]> = line.split(|&byte| byte == b' ').collect();
             if words[0] == b"(refused" {
                 self.refusals[usize::from(words[1][0] - b'1')] += 1;
@@ -159,10 +172,18 @@ impl Reached {
             for (count, &bit) in self.bits.iter_mut().zip(words[2]) {
                 *count += usize::from(bit == b'1');
             }
-            let now = Said { status: status as u8, recovery: number(words[4]), watts: number(words[5]) };
+            let bits = words[2].iter().fold(0, |bits, &bit| 2 * bits + u16::from(bit == b'1'));
+            let now = Said { status: status as u8, bits, recovery: number(words[4]), watts: number(words[5]) };
             for (count, (_, shown)) in self.recoveries.iter_mut().zip(RECOVERIES) {
                 *count += usize::from(shown(before, now));
             }
+            self.edges.count(&Step {
+                sample: &numbers(sample),
+                service: [before, now].map(Said::in_service),
+                recovery: [before, now].map(|said| said.recovery as u8),
+                bits: [before.bits, now.bits],
+                status: now.status,
+            });
             before = now;
         }
     }
@@ -176,6 +197,9 @@ impl Reached {
         things.extend((1..=8).map(|number| (format!("refused {number}"), self.refusals[number - 1])));
         things.extend(named(&BITS, &self.bits).into_iter().map(|(name, count)| (format!("bit {name}"), count)));
         things.extend(RECOVERIES.iter().zip(self.recoveries).map(|((name, _), count)| (format!("recovery {name}"), count)));
+        things.extend(self.edges.things());
+        // The clearing times of uf1 and of1 are too long to be run out so often; tests/library/ does it on lent records.
+        things.extend(self.edges.run_out().into_iter().filter(|(name, _)| !name.starts_with("uf1") && !name.starts_with("of1")));
         things
     }
 }
@@ -200,7 +224,7 @@ impl Comparison {
         let (got, status) = feed::run(&self.program, &input.bytes, &input.feed, &file);
         self.reached.input(input);
         if got == expected && status.code().is_some() {
-            self.reached.output(&expected);
+            self.reached.output(&input.bytes, &expected);
             return;
         }
         self.differences += 1;

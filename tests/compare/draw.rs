@@ -30,6 +30,12 @@ impl Draws {
         items[self.below(items.len())]
     }
 
+    pub fn shuffle<T>(&mut self, items: &mut [T]) {
+        for i in (1..items.len()).rev() {
+            items.swap(i, self.below(i + 1));
+        }
+    }
+
     pub fn once_in(&mut self, count: usize) -> bool {
         self.below(count) == 0
     }

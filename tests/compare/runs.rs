@@ -1,6 +1,7 @@
 //! Accepted sheets and runs of samples.
 
 use crate::draw::*;
+use crate::edges::FREQUENCIES;
 use crate::{Input, Sink};
 
 /// An input in the making: a sheet, then samples.
@@ -146,7 +147,7 @@ fn drawn_code(sheet: &Sheet, draws: &mut Draws) -> u32 {
 
 fn drawn_frequency(sheet: &Sheet, draws: &mut Draws) -> u32 {
     let level = match draws.below(5) {
-        0 => draws.pick(&[58800, 61200]),
+        0 => draws.pick(&[57000, 58800, 61200, 62000]),
         1 => sheet.limit(4 + draws.below(4)),
         2 => draws.pick(&[sheet.pairs[HERTZ].0 as u32, sheet.pairs[HERTZ].1 as u32]),
         3 => 60000,
@@ -294,14 +295,14 @@ fn held(run: &mut Run, draws: &mut Draws) {
     for _ in 0..draws.below(4) {
         run.phase(draws.below(3), draws.pick(&[0, 249, 250, 774]), draws.below(5));
         run.phase(draws.below(3), draws.pick(&[1211, 1440, 1441, 4095]), draws.below(5));
-        run.frequency(draws.pick(&[40000, 58799, 61201, 80000]), draws.below(5));
+        run.frequency(draws.pick(&[40000, 57000, 58799, 61201, 62000, 80000]), draws.below(5));
     }
 }
 
 /// Dips and swells into every band and back: each pair of codes around the bands' edges with each frequency.
 pub fn bands(sink: Sink) {
     let codes = [0, 1, 249, 250, 774, 775, 1000, 1210, 1211, 1440, 1441, 4095];
-    let frequencies = [40000, 58799, 58800, 60000, 61200, 61201, 80000];
+    let frequencies = [40000, 56999, 57000, 58799, 58800, 60000, 61200, 61201, 62000, 62001, 80000];
     for seed in 0..120 {
         let mut draws = Draws::new(5_000_000 + seed);
         let sheet = Sheet::lively(&mut draws);
@@ -314,9 +315,7 @@ pub fn bands(sink: Sink) {
                 order.push((a, b, draws.pick(&frequencies)));
             }
         }
-        for i in (1..order.len()).rev() {
-            order.swap(i, draws.below(i + 1));
-        }
+        draws.shuffle(&mut order);
         for (a, b, frequency) in order {
             let place = draws.below(3);
             let mut sample = NORMAL;
@@ -326,6 +325,99 @@ pub fn bands(sink: Sink) {
         }
         run.done("dips and swells", format!("seed {seed}"), sink);
     }
+}
+
+/// Frequencies far outside.
+const FAR: [u32; 4] = [40000, 56999, 62001, 80000];
+
+/// Every edge of the frequency's regions with voltages of every region, in service and tripped; then limits that run out far outside, those
+/// with short clearing times under drawn sheets.
+pub fn far_outside(sink: Sink) {
+    for seed in 0..120 {
+        let mut draws = Draws::new(9_000_000 + seed);
+        let mut sheet = Sheet::lively(&mut draws).with_wait(draws.pick(&[0, 1, 3]), draws.pick(&[100, 101]));
+        // A limit at 0 cannot be broken.
+        sheet.pairs[1].0 = sheet.pairs[1].0.max(1);
+        let mut run = Run::new(&sheet);
+        run.enter(draws.pick(&[0, 1, 50, 100, 120]));
+        for sample in edges_and_voltages(&mut draws) {
+            run.sample(sample, draws.pick(&[1, 1, 2, 15]));
+            run.enter(draws.pick(&[0, 1, 2, 45]));
+        }
+        // Tripped: a wait that a far frequency cuts short, and then edges, none of them in range.
+        run.phase(4, 0, 1);
+        for _ in 0..2 {
+            run.normal(sheet.wait() - 1);
+            run.frequency(draws.pick(&FAR), 1);
+        }
+        for sample in edges_and_voltages(&mut draws) {
+            run.sample(sample, draws.pick(&[1, 2]));
+        }
+        run.enter(1);
+        for limit in [1, 2, 3, 5, 7] {
+            if sheet.time(limit) <= 3000 {
+                run_out(&mut run, limit, &mut draws);
+            }
+        }
+        run.done("frequency far outside", format!("seed {seed}"), sink);
+    }
+    for (limit, times) in [(0, 120), (4, 2), (6, 2)] {
+        let sheet = DEFAULT.with_wait(0, 100);
+        let mut draws = Draws::new(9_100_000 + limit as u64);
+        let mut run = Run::new(&sheet);
+        run.enter(100);
+        for _ in 0..times {
+            run_out(&mut run, limit, &mut draws);
+        }
+        run.done("frequency far outside", format!("limit {limit}"), sink);
+    }
+}
+
+/// Each edge with a code of each region on one phase, in a drawn order.
+fn edges_and_voltages(draws: &mut Draws) -> Vec<[u32; 7]> {
+    let mut order = Vec::new();
+    for frequency in FREQUENCIES {
+        for codes in [[775, 1000, 1210, 1000], [250, 774, 500, 774], [0, 249, 1211, 1440], [1441, 4095, 1441, 2000]] {
+            let mut sample = NORMAL;
+            (sample[draws.below(3)], sample[3]) = (draws.pick(&codes), frequency);
+            order.push(sample);
+        }
+    }
+    draws.shuffle(&mut order);
+    order
+}
+
+/// A limit broken at a frequency far outside.
+fn far(run: &mut Run, limit: usize, times: usize, draws: &mut Draws) {
+    let (level, place) = (run.sheet.limit(limit), draws.below(3));
+    let mut sample = NORMAL;
+    sample[3] = draws.pick(&FAR);
+    match limit {
+        0 | 1 => sample[place] = code_below(level),
+        2 | 3 => sample[place] = code_above(level),
+        4 | 5 => sample[3] = (level - 1).min(56999),
+        _ => sample[3] = (level + 1).max(62001),
+    }
+    run.sample(sample, times);
+}
+
+/// A limit broken for its clearing time, some steps more, and for one step less, the last steps far outside. One step less and one that does not
+/// break it, far outside too, begin anew. After each, back in service; at last permission is withdrawn far outside.
+fn run_out(run: &mut Run, limit: usize, draws: &mut Draws) {
+    for (less, more) in [(0, draws.below(4)), (1, 0)] {
+        let last = draws.between(1, 12) as usize;
+        run.broken(limit, draws.below(3), 0, run.sheet.time(limit) - less - last);
+        far(run, limit, last + more, draws);
+        if less == 1 {
+            run.frequency(if limit == 4 || limit == 5 { 80000 } else { 40000 }, 1);
+            far(run, limit, 1, draws);
+        }
+        run.enter(draws.pick(&[0, 1, 41]));
+    }
+    let mut off = NORMAL;
+    (off[3], off[4]) = (draws.pick(&FAR), 0);
+    run.sample(off, 1);
+    run.enter(1);
 }
 
 /// Codes that stop power: momentary cessation below and above, and cease.
@@ -373,10 +465,15 @@ fn recoveries_of(length: usize, sink: Sink) {
     run.done("recoveries", format!("length {length}"), sink);
 }
 
-/// Steps in one band that stops power, or in one after the other; at times as many as trip.
+/// Steps in one band that stops power, by a voltage or by the frequency, or in one after the other; at times as many as trip.
 fn cessation(run: &mut Run, draws: &mut Draws) {
     for _ in 0..draws.pick(&[1, 1, 2, 3]) {
-        run.phase(draws.below(3), draws.pick(&STOPPING), draws.pick(&[1, 1, 2, 5, 15, 16]));
+        let times = draws.pick(&[1, 1, 2, 5, 15, 16]);
+        if draws.once_in(3) {
+            run.frequency(draws.pick(&FAR), times);
+        } else {
+            run.phase(draws.below(3), draws.pick(&STOPPING), times);
+        }
     }
 }
 

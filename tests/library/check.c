@@ -2,8 +2,8 @@
  * form of the comparison program's mode `calls`; tests/library.sh holds the answers against that program's. What that mode does not have
  * is checked here: the sheet of spec 3.3 and the refused lines of spec 11.1, that a replay is what its steps one by one are, that a
  * refused call writes no byte of what is lent to it, bytes of padding among them, that an image carried over and back is what it was, and
- * that the calls reach each way in which the recovery count moves, a rule is named and an image is carried or refused, and that a rule is what its
- * name in the header says. Every other step is an explained one, on the same record. It prints 'N passed, M failed' for these. */
+ * that the calls reach each way in which the recovery count moves, a rule is named and an image is carried or refused, and the edges of the
+ * frequency's regions, and that a rule is what its name in the header says. Every other step is an explained one, on the same record. It prints 'N passed, M failed' for these. */
 #include <inttypes.h>
 #include <stdio.h>
 #include <string.h>
@@ -87,18 +87,21 @@ static const char *const limits[9] = {"", "uv1", "uv2", "ov1", "ov2", "uf1", "uf
 static const char *const watts_rules[WATTS_RULES + 1] = {
     "", "the status", "available", "the operator", "the share", "the curve", "the nameplate", "the recovery"};
 
-/* Ways of naming a rule. The highest voltage is never named where the frequency is as bad: the frequency is at worst in mandatory operation, and
- * where the highest voltage is there, low, the lowest is no better. */
+/* Ways of naming a rule. */
 enum {
     PERMISSION_LIMIT, PERMISSION_ALONE, WAIT_PERMISSION, WAIT_LIMIT, WAIT_NAMELESS, RETURN_NAMELESS, LOWEST_ENTERING, LOWEST_CONTINUOUS,
-    LOWEST_HIGHEST, LOWEST_FREQUENCY, HIGHEST_LOWEST, HIGHEST_FREQUENCY, STATUS_TRIPPED, STATUS_MOMENTARY, STATUS_CEASE, OTHER_0, NOTHING_HOLDS,
+    LOWEST_HIGHEST, LOWEST_FREQUENCY, HIGHEST_LOWEST, HIGHEST_FREQUENCY, LOWEST_BELOW, LOWEST_ABOVE, HIGHEST_BELOW, HIGHEST_ABOVE,
+    FREQUENCY_BELOW, FREQUENCY_ABOVE, FREQUENCY_MANDATORY, FREQUENCY_MOMENTARY, STATUS_TRIPPED, STATUS_MOMENTARY, STATUS_CEASE, OTHER_0, NOTHING_HOLDS,
     NAMINGS
 };
 static const char *const namings[NAMINGS] = {
     "permission named, a limit complete too", "permission named, no limit complete", "the wait named, permission off",
     "the wait named, a limit complete", "the wait named, status without a name", "a return, status without a name",
     "lowest named in entering", "lowest named in continuous", "lowest named, highest as bad", "lowest named, frequency as bad",
-    "highest named, lowest bad but better", "highest named, frequency bad but better", "the status holds the watts in tripped",
+    "highest named, lowest bad but better", "highest named, frequency bad but better", "lowest named, frequency below 57000",
+    "lowest named, frequency above 62000", "highest named, frequency below 57000", "highest named, frequency above 62000",
+    "frequency named below 57000", "frequency named above 62000", "frequency named in mandatory",
+    "frequency named, a voltage in momentary", "the status holds the watts in tripped",
     "the status holds the watts in momentary", "the status holds the watts in cease", "another rule holds the watts at 0",
     "nothing holds the watts down"};
 
@@ -124,7 +127,7 @@ static int region_of_code(uint32_t code) {
 }
 
 static int region_of_frequency(uint32_t hertz) {
-    return hertz >= 58800 && hertz <= 61200 ? SALTDELTA_CONTINUOUS : SALTDELTA_MANDATORY;
+    return hertz < 57000 || hertz > 62000 ? SALTDELTA_CEASE : hertz < 58800 || hertz > 61200 ? SALTDELTA_MANDATORY : SALTDELTA_CONTINUOUS;
 }
 
 /* The volt-watt curve at the mean voltage. */
@@ -182,6 +185,7 @@ static void explained_shown(uint8_t status, const saltdelta_settings *s, const u
     const int frequency = region_of_frequency(v[3]), off = v[4] == 0, bad = SALTDELTA_CONTINUOUS + 1;
     const int rule = e->status_rule, complete = e->report.bits >> 1 != 0, nameless = status > SALTDELTA_CEASE;
     const int by_lowest = rule == SALTDELTA_STATUS_BY_LOWEST, by_highest = rule == SALTDELTA_STATUS_BY_HIGHEST;
+    const int by_frequency = rule == SALTDELTA_STATUS_BY_FREQUENCY;
     const int gives = e->report.status >= SALTDELTA_ENTERING && e->report.status <= SALTDELTA_MANDATORY;
     const int none = e->watts_rule == SALTDELTA_WATTS_BY_STATUS;
     const int was = status >= SALTDELTA_ENTERING && status <= SALTDELTA_CEASE, is = e->report.status != SALTDELTA_TRIPPED;
@@ -204,6 +208,14 @@ static void explained_shown(uint8_t status, const saltdelta_settings *s, const u
     named[LOWEST_FREQUENCY] += by_lowest && lowest >= bad && frequency == lowest;
     named[HIGHEST_LOWEST] += by_highest && lowest >= bad && lowest < highest;
     named[HIGHEST_FREQUENCY] += by_highest && frequency >= bad && frequency < highest;
+    named[LOWEST_BELOW] += by_lowest && v[3] < 57000;
+    named[LOWEST_ABOVE] += by_lowest && v[3] > 62000;
+    named[HIGHEST_BELOW] += by_highest && v[3] < 57000;
+    named[HIGHEST_ABOVE] += by_highest && v[3] > 62000;
+    named[FREQUENCY_BELOW] += by_frequency && v[3] < 57000;
+    named[FREQUENCY_ABOVE] += by_frequency && v[3] > 62000;
+    named[FREQUENCY_MANDATORY] += by_frequency && e->report.status == SALTDELTA_MANDATORY;
+    named[FREQUENCY_MOMENTARY] += by_frequency && (lowest == SALTDELTA_MOMENTARY || highest == SALTDELTA_MOMENTARY);
     named[STATUS_TRIPPED] += none && e->report.status == SALTDELTA_TRIPPED;
     named[STATUS_MOMENTARY] += none && e->report.status == SALTDELTA_MOMENTARY;
     named[STATUS_CEASE] += none && e->report.status == SALTDELTA_CEASE;
@@ -247,6 +259,48 @@ static void rules_reached(void) {
         sprintf(number, "%d", i);
         often(refused_with[i], "explained step refused with ", number, "");
     }
+}
+
+/* ---- what is reached at the edges of the frequency's regions, and far outside */
+
+enum { HERTZ_EDGES = 8 };
+static const uint32_t hertz_edges[HERTZ_EDGES] = {56999, 57000, 58799, 58800, 61200, 61201, 62000, 62001};
+/* At [i][service][region]: edge i, tripped and in service, with voltages of each region from continuous on. Limits that run out by their places,
+ * trips by permission, recovery set back below and above. */
+static unsigned at_edge[HERTZ_EDGES][2][4], run_out[9], trip_far_outside[2], set_back[2];
+
+/* Counts an accepted sample, with the record and settings lent to its step, and the report. */
+static void edge_shown(const saltdelta_board *b, const saltdelta_settings *s, const uint32_t *sample, const saltdelta_report *r) {
+    const int was = b->status >= SALTDELTA_ENTERING && b->status <= SALTDELTA_CEASE, is = r->status != SALTDELTA_TRIPPED;
+    int voltages = SALTDELTA_CONTINUOUS;
+    for (int i = 0; i < 3; i++)
+        if (region_of_code(sample[i]) > voltages)
+            voltages = region_of_code(sample[i]);
+    for (int i = 0; i < HERTZ_EDGES; i++)
+        at_edge[i][is][voltages - SALTDELTA_CONTINUOUS] += sample[3] == hertz_edges[i] && was == is;
+    if (region_of_frequency(sample[3]) != SALTDELTA_CEASE)
+        return;
+    for (int i = 1; i <= 8; i++)
+        run_out[i] += (r->bits >> (9 - i) & 1) && b->counters[i - 1] < s->trip[i - 1].clearing;
+    trip_far_outside[sample[4] != 0] += was && !is;
+    set_back[sample[3] > 62000] += was && is && voltages <= SALTDELTA_MANDATORY && b->recovery > 0 && r->recovery == 0;
+}
+
+static void edges_reached(void) {
+    static const char *const regions[4] = {"continuous", "mandatory", "momentary", "cease"};
+    for (int i = 0; i < HERTZ_EDGES; i++)
+        for (int service = 0; service < 2; service++)
+            for (int region = 0; region < 4; region++) {
+                char name[48];
+                sprintf(name, "%" PRIu32 " mHz %s, voltages ", hertz_edges[i], service ? "in service" : "tripped");
+                often(at_edge[i][service][region], "frequency: ", name, regions[region]);
+            }
+    often(trip_far_outside[0], "frequency: ", "tripped far outside by permission", "");
+    often(trip_far_outside[1], "frequency: ", "tripped far outside by a limit", "");
+    often(set_back[0], "frequency: ", "recovery to 0 below 57000 mHz, by the frequency alone", "");
+    often(set_back[1], "frequency: ", "recovery to 0 above 62000 mHz, by the frequency alone", "");
+    for (int i = 1; i <= 8; i++)
+        often(run_out[i], "frequency: ", limits[i], " runs out far outside");
 }
 
 /* ---- calls and answers, a line each */
@@ -365,6 +419,7 @@ static uint32_t explain(saltdelta_board *b, const saltdelta_settings *s, const u
         put_report(&lent.explained.report);
         put_rules(&lent.explained);
         shown(b->status, b->recovery, &lent.explained.report);
+        edge_shown(b, s, sample, &lent.explained.report);
         explained_shown(b->status, s, sample, &lent.explained);
         *last = lent.explained.report;
     } else {
@@ -381,7 +436,7 @@ static uint32_t explain(saltdelta_board *b, const saltdelta_settings *s, const u
 /* A step, every other time an explained one. The report is that of the last accepted step. */
 static uint32_t step(saltdelta_board *b, const saltdelta_settings *s, const uint32_t *sample, size_t count, saltdelta_report *last) {
     static unsigned made;
-    const uint8_t status = b->status, recovery = b->recovery;
+    const saltdelta_board before = *b;
     saltdelta_report r = {77, 77, 77, 77, 77, -77};
     uint8_t image[SALTDELTA_IMAGE] = {0};
     uint32_t number;
@@ -391,7 +446,8 @@ static uint32_t step(saltdelta_board *b, const saltdelta_settings *s, const uint
     give_sample("step", sample, count);
     if (number == SALTDELTA_ACCEPTED) {
         put_report(&r);
-        shown(status, recovery, &r);
+        shown(before.status, before.recovery, &r);
+        edge_shown(&before, s, sample, &r);
     } else if (r.status == 77 && r.bits == 77 && r.share == 77 && r.recovery == 77 && r.watts == 77 && r.vars == -77) {
         fprintf(answers, "refused %" PRIu32 " ", number);
     } else {
@@ -648,13 +704,16 @@ static saltdelta_settings settings_read(void) {
     return s;
 }
 
-/* Steps with one sample: steady, or with one phase at an edge of mandatory operation, momentary cessation or cease. */
+/* Steps with one sample: steady, or with one phase or the frequency at an edge of mandatory operation, momentary cessation or cease. */
 static void steps(saltdelta_board *b, const saltdelta_settings *s, int dip, uint32_t times) {
     static const uint32_t edges[8] = {0, 249, 250, 774, 1211, 1440, 1441, 4095};
+    static const uint32_t hertz[6] = {40000, 56999, 57000, 62000, 62001, 80000};
     saltdelta_report report;
     uint32_t sample[7];
     memcpy(sample, steady, sizeof sample);
-    if (dip)
+    if (dip && one_in(4))
+        sample[3] = hertz[within(0, 5)];
+    else if (dip)
         sample[within(0, 2)] = edges[within(0, 7)];
     while (times-- > 0)
         step(b, s, sample, 7, &report);
@@ -714,12 +773,12 @@ static uint32_t edge(void) {
 
 /* One code on all phases or most, one frequency, permission mostly, powers of a few kinds. */
 static void rule_sample(uint32_t *sample) {
-    static const uint32_t hertz[16] = {
-        40000, 49999, 56999, 57000, 58799, 58800, 58999, 59000, 61000, 61001, 61200, 61201, 61800, 61801, 66001, 80000};
+    static const uint32_t hertz[18] = {40000, 49999, 56999, 57000, 58799, 58800, 58999, 59000, 61000,
+                                       61001, 61200, 61201, 61800, 61801, 62000, 62001, 66001, 80000};
     const uint32_t most = one_in(2) ? 1000 : edge();
     for (int i = 0; i < 3; i++)
         sample[i] = one_in(4) ? edge() : most;
-    sample[3] = one_in(2) ? 60000 : hertz[within(0, 15)];
+    sample[3] = one_in(2) ? 60000 : hertz[within(0, 17)];
     sample[4] = !one_in(4);
     for (int i = 5; i < 7; i++)
         sample[i] = one_in(4) ? 0 : one_in(3) ? 10000 : within(0, 10000);
@@ -745,6 +804,30 @@ static void status_steps(void) {
             rule_sample(sample);
             two_steps(rule_record(&s), &s, sample);
         }
+    }
+}
+
+/* Lent records, about half of them in service with low counters, with each edge of the frequency's regions and voltages of each region, on one phase
+ * or on all. */
+static void edge_steps(void) {
+    static const uint32_t codes[4][4] = {{775, 1000, 1210, 1000}, {250, 500, 774, 774}, {0, 249, 1211, 1440}, {1441, 2000, 4095, 1441}};
+    for (int i = 0; i < 16000; i++) {
+        const saltdelta_settings s = rule_settings();
+        const uint32_t code = codes[i / HERTZ_EDGES % 4][within(0, 3)], phase = within(0, 6), permission = !one_in(8);
+        saltdelta_board b = rule_record(&s);
+        uint32_t sample[7] = {1000, 1000, 1000, hertz_edges[i % HERTZ_EDGES], permission, 10000, within(0, 10000)};
+        if (one_in(2)) {
+            b.status = (uint8_t)within(SALTDELTA_ENTERING, SALTDELTA_CEASE);
+            for (int k = 0; k < 9; k++)
+                b.counters[k] = within(0, 12);
+        }
+        if (i % 20 == 0)
+            anew();
+        for (uint32_t k = 0; k < 3; k++)
+            if (phase == k || phase > 2)
+                sample[k] = code;
+        give_settings(&s);
+        two_steps(b, &s, sample);
     }
 }
 
@@ -1062,6 +1145,7 @@ int main(int argc, char **argv) {
     recoveries();
     status_steps();
     watts_steps();
+    edge_steps();
     refused_explained();
     for (size_t count = 0; count <= 350; count++)
         replay(count);
@@ -1075,6 +1159,7 @@ int main(int argc, char **argv) {
         expect(reached[i] >= REACHED_AT_LEAST, ways[i]);
     }
     rules_reached();
+    edges_reached();
     printf("%d passed, %d failed\n", passed, failed);
     return failed != 0;
 }

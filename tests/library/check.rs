@@ -8,9 +8,12 @@
 #[allow(dead_code)]
 #[path = "../../comparison/board.rs"]
 mod comparison;
+#[path = "../compare/edges.rs"]
+mod edges;
 mod library;
 
 use comparison as other;
+use edges::{Edges, LIMITS, Step};
 use library::{Board, Explained, Limit, Point, Replayed, Report, Settings, Sheet, Span};
 use std::marker::PhantomData;
 use std::mem::size_of;
@@ -209,10 +212,17 @@ fn sample(dice: &mut Dice, wild: bool) -> Vec<u32> {
 /// Codes at the edges of mandatory operation, momentary cessation and cease.
 const DIPS: [u32; 8] = [0, 249, 250, 774, 1211, 1440, 1441, 4095];
 
-/// A sample in which one phase is one of these.
+/// Frequencies at the ends of ride-through and far outside.
+const HERTZ_DIPS: [u32; 6] = [40000, 56999, 57000, 62000, 62001, 80000];
+
+/// A sample in which one phase, or the frequency, is one of these.
 fn dip(dice: &mut Dice, steady: &[u32]) -> Vec<u32> {
     let mut s = steady.to_vec();
-    s[dice.below(3) as usize] = DIPS[dice.below(8) as usize];
+    if dice.one_in(4) {
+        s[3] = HERTZ_DIPS[dice.below(6) as usize];
+    } else {
+        s[dice.below(3) as usize] = DIPS[dice.below(8) as usize];
+    }
     s
 }
 
@@ -425,7 +435,7 @@ const _: () = assert!(
     && library::WATTS_BY_RECOVERY == other::WATTS_BY_RECOVERY
 );
 
-/// The rules in the order of their numbers, from 1, and the limits in sheet order.
+/// The rules in the order of their numbers, from 1.
 const STATUS_RULES: [(u8, &str); 7] = [
     (library::STATUS_BY_PERMISSION, "permission"),
     (library::STATUS_BY_LIMIT, "a limit"),
@@ -435,7 +445,6 @@ const STATUS_RULES: [(u8, &str); 7] = [
     (library::STATUS_BY_HIGHEST, "highest"),
     (library::STATUS_BY_FREQUENCY, "frequency"),
 ];
-const LIMITS: [&str; 8] = ["uv1", "uv2", "ov1", "ov2", "uf1", "uf2", "of1", "of2"];
 const WATTS_RULES: [(u8, &str); 7] = [
     (library::WATTS_BY_STATUS, "the status"),
     (library::WATTS_BY_AVAILABLE, "available"),
@@ -471,14 +480,8 @@ impl Explaining<'_> {
     /// The regions of lowest voltage, highest voltage and frequency, as statuses: the worse, the higher.
     fn regions(&self) -> [u8; 3] {
         let phases = &self.sample[..3];
-        let by_code = |code: &u32| match code {
-            250..=774 => other::MANDATORY,
-            775..=1210 => other::CONTINUOUS,
-            0..=1440 => other::MOMENTARY,
-            _ => other::CEASE,
-        };
-        let hertz = if (58800..=61200).contains(&self.sample[3]) { other::CONTINUOUS } else { other::MANDATORY };
-        [by_code(phases.iter().min().unwrap()), by_code(phases.iter().max().unwrap()), hertz]
+        let (lowest, highest) = (*phases.iter().min().unwrap(), *phases.iter().max().unwrap());
+        [edges::region_of_code(lowest), edges::region_of_code(highest), edges::region_of_frequency(self.sample[3])]
     }
 
     /// The lowest voltage is named outside continuous operation, and this one of the regions is as bad.
@@ -491,6 +494,11 @@ impl Explaining<'_> {
     fn bad_beside_highest(&self, of: usize) -> bool {
         let regions = self.regions();
         self.named(library::STATUS_BY_HIGHEST) && regions[of] != other::CONTINUOUS && regions[of] < regions[1]
+    }
+
+    /// This rule is named in cease, and the frequency is far outside, above 62000 or below 57000.
+    fn far(&self, rule: u8, above: bool) -> bool {
+        self.named(rule) && self.regions()[2] == other::CEASE && (self.sample[3] > 62000) == above
     }
 
     /// The volt-watt curve at the mean voltage.
@@ -521,9 +529,8 @@ impl Explaining<'_> {
     }
 }
 
-/// Ways of naming a rule. The highest voltage is never named where the frequency is as bad: the frequency is at worst in mandatory operation,
-/// and where the highest voltage is there, low, the lowest is no better.
-const NAMINGS: [(&str, fn(&Explaining) -> bool); 17] = [
+/// Ways of naming a rule.
+const NAMINGS: [(&str, fn(&Explaining) -> bool); 25] = [
     ("permission named, a limit complete too", |e| e.named(library::STATUS_BY_PERMISSION) && e.complete_behind(0)),
     ("permission named, no limit complete", |e| e.named(library::STATUS_BY_PERMISSION) && !e.complete_behind(0)),
     ("the wait named, permission off", |e| e.named(library::STATUS_BY_WAIT) && !e.permitted()),
@@ -536,6 +543,16 @@ const NAMINGS: [(&str, fn(&Explaining) -> bool); 17] = [
     ("lowest named, frequency as bad", |e| e.as_bad_as_lowest(2)),
     ("highest named, lowest bad but better", |e| e.bad_beside_highest(0)),
     ("highest named, frequency bad but better", |e| e.bad_beside_highest(2)),
+    ("lowest named, frequency below 57000", |e| e.far(library::STATUS_BY_LOWEST, false)),
+    ("lowest named, frequency above 62000", |e| e.far(library::STATUS_BY_LOWEST, true)),
+    ("highest named, frequency below 57000", |e| e.far(library::STATUS_BY_HIGHEST, false)),
+    ("highest named, frequency above 62000", |e| e.far(library::STATUS_BY_HIGHEST, true)),
+    ("frequency named below 57000", |e| e.far(library::STATUS_BY_FREQUENCY, false)),
+    ("frequency named above 62000", |e| e.far(library::STATUS_BY_FREQUENCY, true)),
+    ("frequency named in mandatory", |e| e.named(library::STATUS_BY_FREQUENCY) && e.now.report.status == other::MANDATORY),
+    ("frequency named, a voltage in momentary", |e| {
+        e.named(library::STATUS_BY_FREQUENCY) && e.regions()[..2].contains(&other::MOMENTARY)
+    }),
     ("the status holds the watts in tripped", |e| e.status_holds(other::TRIPPED)),
     ("the status holds the watts in momentary", |e| e.status_holds(other::MOMENTARY)),
     ("the status holds the watts in cease", |e| e.status_holds(other::CEASE)),
@@ -668,6 +685,7 @@ struct Tally {
     /// of these every other is an explained one
     steps: u64,
     recoveries: [u64; RECOVERIES.len()],
+    edges: Edges,
     rules: Reached,
     carryings: [u64; CARRYINGS.len()],
 }
@@ -695,7 +713,15 @@ impl Tally {
         self.differ_in_case = 0;
     }
 
-    fn accepted(&mut self, lent: &Board, now: &Report) {
+    fn accepted(&mut self, lent: &Board, settings: &Settings, sample: &[u32], now: &Report) {
+        let full = (0..8).filter(|&i| lent.counters[i] >= settings.trip[i].clearing);
+        self.edges.count(&Step {
+            sample,
+            service: [lent.status, now.status].map(in_service),
+            recovery: [lent.recovery, now.recovery],
+            bits: [full.map(|i| 1 << (8 - i)).sum(), now.bits],
+            status: now.status,
+        });
         for (count, (_, shown)) in self.recoveries.iter_mut().zip(RECOVERIES) {
             *count += u64::from(shown(lent, now));
         }
@@ -768,7 +794,7 @@ fn compare_explained(tally: &mut Tally, board: &mut Board, settings: &Settings, 
         format!("explained step of {lent:?} with {sample:?}: {found} {board:?} {explained:?}, not {number} {record:?} {reported:?}")
     });
     if same && found == 0 {
-        tally.accepted(&lent.0, &explained.report);
+        tally.accepted(&lent.0, settings, sample, &explained.report);
         tally.rules.accepted(&Explaining { lent: &lent.0, settings, sample, now: explained });
     } else if same {
         tally.rules.refused[found as usize] += 1;
@@ -795,8 +821,8 @@ fn compare_plain(tally: &mut Tally, board: &mut Board, settings: &Settings, samp
         && s.bytes() == before.1
         && (found == 0 || untouched);
     tally.call(same, || format!("step of {:?} with {:?}: {} {:?} {:?}, not {} {:?} {:?}", lent, sample, found, board, report, number, record, reported));
-    if found == 0 {
-        tally.accepted(&lent.0, report);
+    if same && found == 0 {
+        tally.accepted(&lent.0, settings, sample, report);
     }
     found
 }
@@ -965,8 +991,8 @@ fn lent_recoveries(tally: &mut Tally, dice: &mut Dice) {
 
 /// Codes and frequencies at the edges of regions, of limits and of entering service.
 const EDGES: [u32; 12] = [0, 249, 250, 774, 775, 841, 1000, 1210, 1211, 1440, 1441, 4095];
-const HERTZ_EDGES: [u32; 16] =
-    [40000, 49999, 56999, 57000, 58799, 58800, 58999, 59000, 61000, 61001, 61200, 61201, 61800, 61801, 66001, 80000];
+const HERTZ_EDGES: [u32; 18] =
+    [40000, 49999, 56999, 57000, 58799, 58800, 58999, 59000, 61000, 61001, 61200, 61201, 61800, 61801, 62000, 62001, 66001, 80000];
 
 /// Accepted settings, the trip levels mostly those nearest to nominal and the clearing times the shortest; a wait of 0 to 3.
 fn rule_settings(dice: &mut Dice) -> Settings {
@@ -1005,7 +1031,7 @@ fn rule_sample(dice: &mut Dice) -> Vec<u32> {
     let edge = |dice: &mut Dice| EDGES[dice.below(12) as usize];
     let most = if dice.one_in(2) { 1000 } else { edge(dice) };
     let mut s: Vec<u32> = (0..3).map(|_| if dice.one_in(4) { edge(dice) } else { most }).collect();
-    s.push(if dice.one_in(2) { 60000 } else { HERTZ_EDGES[dice.below(16) as usize] });
+    s.push(if dice.one_in(2) { 60000 } else { HERTZ_EDGES[dice.below(18) as usize] });
     s.push(dice.below(4).min(1) as u32);
     s.extend((0..2).map(|_| dice.inside(0, 10000) as u32));
     s
@@ -1028,6 +1054,31 @@ fn status_rules(tally: &mut Tally, dice: &mut Dice) {
         if i % 100 == 0 {
             tally.case();
         }
+    }
+}
+
+/// Lent records, about half of them in service with low counters, with each edge of the frequency's regions and voltages of each region, on one
+/// phase or on all.
+fn far_outside(tally: &mut Tally, dice: &mut Dice) {
+    for _ in 0..400 {
+        for hertz in edges::FREQUENCIES {
+            for codes in [[775, 1000, 1210, 1000], [250, 500, 774, 774], [0, 249, 1211, 1440], [1441, 2000, 4095, 1441]] {
+                let settings = rule_settings(dice);
+                let mut record = rule_record(dice, &settings);
+                if dice.one_in(2) {
+                    record.status = dice.within(1, 5) as u8;
+                    record.counters = record.counters.map(|_| dice.below(13) as u32);
+                }
+                let (code, phase) = (codes[dice.below(4) as usize], dice.below(7) as usize);
+                let mut s = vec![1000, 1000, 1000, hertz, u32::from(!dice.one_in(8)), 10_000, dice.inside(0, 10_000) as u32];
+                match phase {
+                    0..=2 => s[phase] = code,
+                    _ => s[..3].fill(code),
+                }
+                two_steps(tally, record, &settings, &s);
+            }
+        }
+        tally.case();
     }
 }
 
@@ -1262,8 +1313,14 @@ fn main() {
     tally.recoveries(RECOVERIES.len());
     status_rules(&mut tally, &mut Dice(86));
     watts_rules(&mut tally, &mut Dice(88));
-    println!("explained steps: every other of these, and two times 20000 of lent records for the rules:");
+    far_outside(&mut tally, &mut Dice(5_762));
+    println!("explained steps: every other of these, two times 20000 of lent records for the rules, and 12800 with edges of the frequency:");
     std::mem::take(&mut tally.rules).print(&mut tally);
+    println!("steps at the edges of the frequency's regions, all of these:");
+    let edges = std::mem::take(&mut tally.edges);
+    for (name, count) in edges.things().into_iter().chain(edges.run_out()) {
+        tally.reached("frequency:", &name, count as u64);
+    }
     let mut seen = [0; 10];
     saves(&mut tally, &mut Dice(45), &mut seen);
     println!("saves: {} written, {} refused with 9", seen[0], seen[9]);

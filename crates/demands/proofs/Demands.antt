@@ -17,6 +17,7 @@ use Rattle.laws.proofs.SheetCauses.{sheets-refused-rightly}
 use Rattle.laws.proofs.Demand2.{demand2, reports-trip, counter-rule}
 use Rattle.laws.proofs.Demand3.{demand3}
 use Rattle.laws.proofs.Recovery.{restores-power}
+use Rattle.laws.proofs.FarFrequency.{ceases-far-outside}
 use Rattle.laws.proofs.Bits.{bits-unpacked, reports-items, two-histories-reported}
 use Rattle.laws.proofs.LentRecords.{reads-records}
 use Rattle.laws.proofs.Printed.{words-tell}
@@ -41,6 +42,7 @@ use Rattle.demands.specs.Demands.{ShamsCaught, ShamImagesCaught, ShamRea
 use Rattle.demands.specs.Demands.{PowerLaws, OurSessions, SessionsPrinted}
 use Rattle.demands.specs.Demands.{AlikeEquipmentStepsAlike, OurPrinted, OnePrinting, SamplesOnLines, StatusWordsTell, BitsUnpacked}
 use Rattle.demands.specs.Demands.{ReportsAreItems, OurTwoHistoriesReported, OurRecovery, AnyRecovery, ShamRecoveryCaught}
+use Rattle.demands.specs.Demands.{OurFarFrequency, AnyFarFrequency, ShamFarFrequencyCaught}
 use Rattle.demands.specs.Demands.{OurLentRecords, LentValues, RightReportsTrip, ShamRefusalsCaught, ShamReportsCaught, ShamPrintingsCaught}
 use Rattle.claims.specs.TripAndReturn.{Demand2}
 use Rattle.claims.specs.TwoHistories.{Demand3}
@@ -72,6 +74,7 @@ use Rattle.demands.proofs.Writable.{accepted-writable}
 use Rattle.demands.proofs.Sound.{our-equipment-sound}
 use Rattle.demands.proofs.Shams.{quick-accepted, waiting-accepted, early, invented, tripped, repeated, kept, refusing, leaving, as-lent}
 use Rattle.demands.proofs.Shams.{no-ramp, no-ninth, no-recovery, no-bits, full-at-once, unheld, withheld}
+use Rattle.demands.proofs.Shams.{stopped, riding-on, low-end, high-end, momentary}
 use Rattle.demands.proofs.ShamStatus.{only-reports, only-trips, only-returns}
 use Rattle.demands.proofs.ShamReadings.{turned-away, let-in}
 use Rattle.demands.proofs.ShamPrintings.{no-more, not-nothing}
@@ -186,6 +189,9 @@ powerLaws =
 pub ourRecovery : OurRecovery
 ourRecovery st ok = restores-power ourEquipment st our-equipment-sound ok
 
+pub ourFarFrequency : OurFarFrequency
+ourFarFrequency st ok = ceases-far-outside ourEquipment st our-equipment-sound ok
+
 pub ourCarryOver : OurCarryOver
 ourCarryOver =
     record { refuses = refused-rightly; numbered = numbered; round-trips = round-trips; records = carries-records }
@@ -248,6 +254,9 @@ shamImagesCaught = record { accepted = (quick-accepted, waiting-accepted); ramp 
 pub shamRecoveryCaught : ShamRecoveryCaught
 shamRecoveryCaught = record { shown = full-at-once; unheld = unheld; withheld = withheld }
 
+pub shamFarFrequencyCaught : ShamFarFrequencyCaught
+shamFarFrequencyCaught = record { riding-on = riding-on; low-end = low-end; high-end = high-end; momentary = momentary; stopped = stopped }
+
 pub shamReadingsCaught : ShamReadingsCaught
 shamReadingsCaught =
     record { goodSheet = turned-away; unended = let-in; large = no-large; unendedSample = no-unended; carriageReturn = no-return; asLent = as-lent }
@@ -274,6 +283,9 @@ anyTripAndReturn e sound = demand2 e sound
 
 pub anyRecovery : AnyRecovery
 anyRecovery e sound st ok = restores-power e st sound ok
+
+pub anyFarFrequency : AnyFarFrequency
+anyFarFrequency e sound st ok = ceases-far-outside e st sound ok
 
 pub anyWayBack : AnyWayBack
 anyWayBack = histories-back

@@ -16,4 +16,4 @@ use Rattle.demands.specs.Edges.{edges, EdgesHold}
 pub edges-hold : EdgesHold
 unfolding EdgesHold edges all within rows inRow rising leadingDigits afterDigits valueAfter wellFormed takeNumber takeSigned firstLine hasFeed afterLine sheetForms numbersOf settingsOf readFrom readSheet defaultSheet defaultSettings largest voltage broken voltageRegion frequencyRegion regionOf curveFrom curve nameplate
 edges-hold =
-    (refl, (refl, (refl, (refl, (refl, (refl, (refl, (refl, (refl, (refl, (refl, (refl, (refl, (refl, (refl, (refl, (refl, (refl, (refl, tt)))))))))))))))))))
+    (refl, (refl, (refl, (refl, (refl, (refl, (refl, (refl, (refl, (refl, (refl, (refl, (refl, (refl, (refl, (refl, (refl, (refl, (refl, (refl, (refl, (refl, (refl, (refl, (refl, (refl, (refl, tt)))))))))))))))))))))))))))

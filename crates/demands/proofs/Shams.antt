@@ -1,8 +1,8 @@
 -- Each sham board is caught by demand 2: a list of one or two calls, on which antt computes what it shows and what a board must show.
 -- Assumes nothing.
 use mathlib.Core.Path.{_≡_, refl, ap}
-use mathlib.Core.Bool.{true, false}
-use mathlib.Core.Logic.{inl}
+use mathlib.Core.Bool.{true, false, false≢true}
+use mathlib.Core.Logic.{inl, inr}
 use mathlib.Core.List.{List, [], _∷_}
 use Prim.Native.Nat.{ℕ, _≤_}
 use native.Mathlib.Omega.{arith}
@@ -29,11 +29,12 @@ use Rattle.rules.specs.Refusals.{answerNumber}
 use Rattle.claims.specs.TripAndReturn.{recordOf, TripAndReturn}
 use Rattle.claims.specs.LentRecords.{ReadsRecords}
 use Rattle.claims.specs.Recovery.{RestoresPower}
+use Rattle.claims.specs.FarFrequency.{CeasesFarOutside}
 use Rattle.claims.specs.TwoHistories.{TwoHistoriesBy}
 use Rattle.demands.specs.Shams.{exampleSheet, tripsEarly, inventsCounters, alwaysTripped, repeatsFirst, keepsRecord, turnsAway, takesAsLent}
 use Rattle.demands.specs.ShamRefusals.{refusesLastCode}
 use Rattle.demands.specs.Shams.{turnsAwayLastCode, savedWithoutRamp, savedWithoutNinth, savedWithoutRecovery, reportWithoutBits}
-use Rattle.demands.specs.Shams.{reportFullAtOnce, reportUnheld, reportWithheld}
+use Rattle.demands.specs.Shams.{reportFullAtOnce, reportUnheld, reportWithheld, stopsCounting, reportRidingOn, reportCeasingAt, reportMomentary}
 use Rattle.demands.proofs.ShamReport.{agree-without-bits}
 
 abbrev quick : Settings
@@ -57,7 +58,7 @@ calm = calls 60000 1
 pub early : ¬ TripAndReturn ourEquipment tripsEarly quick
 unfolding tripsEarly all any within largest voltage rows inRow rising checkFrom linesOf settingsCheck sampleCheck broken inRange voltageRegion frequencyRegion regionOf curveFrom curve nameplate varsOf wattsOf reportOf fresh each readAs settled ruled next shown stepOf streak serving climbed sinceCessation historyStatus historyShare historyRecovery historyWatts historyVars historyReport
 early d =
-    let e : _≡_ {A = ℕ} 0 3 = ap (λ (r : Report). r .status) (d .shows (calm ∷ calls 62001 1 ∷ []) (inl refl, (inl refl, tt))) in
+    let e : _≡_ {A = ℕ} 0 3 = ap (λ (r : Report). r .status) (d .shows (calm ∷ calls 61201 1 ∷ []) (inl refl, (inl refl, tt))) in
     omega arith
 
 -- after a sample at nominal the ninth counter is 1
@@ -110,7 +111,7 @@ pub as-lent : ¬ ReadsRecords ourEquipment takesAsLent
 unfolding takesAsLent all any within largest voltage rows inRow rising checkFrom linesOf settingsCheck sampleCheck broken inRange voltageRegion frequencyRegion regionOf curveFrom curve nameplate varsOf wattsOf reportOf fresh each readAs settled ruled next shown stepOf
 as-lent d =
     let b : Board = record { status = 3; counters = replicate 9 0; ramp = 101; watts = 0; vars = pos 0; recovery = 40 } in
-    let e : _≡_ {A = ℕ} 101 100 = ap (λ (t : Stepped). t .board .ramp) (d .steps b (calls 62001 1) refl) in
+    let e : _≡_ {A = ℕ} 101 100 = ap (λ (t : Stepped). t .board .ramp) (d .steps b (calls 61201 1) refl) in
     omega arith
 
 -- ---- sham images
@@ -179,6 +180,42 @@ pub withheld : ¬ RestoresPower ourEquipment quick (reportWithheld quick)
 unfolding reportWithheld all any within largest voltage broken inRange voltageRegion frequencyRegion regionOf curveFrom curve nameplate varsOf wattsOf streak serving climbed sinceCessation historyStatus historyShare historyRecovery historyWatts historyVars historyReport
 withheld d =
     let e : _≡_ {A = ℕ} 0 250 = d .held (power 1000) (power 1441 ∷ power 1000 ∷ power 1000 ∷ power 1000 ∷ power 1000 ∷ []) refl in
+    omega arith
+
+-- ---- shams where the frequency is far outside
+
+-- in service, with no limit broken at nominal and of1 broken here: ours counts 1
+pub stopped : ¬ TripAndReturn ourEquipment stopsCounting quick
+unfolding stopsCounting recordOf all any within largest voltage rows inRow rising checkFrom linesOf settingsCheck sampleCheck broken inRange voltageRegion frequencyRegion regionOf curveFrom curve nameplate varsOf wattsOf reportOf fresh each readAs settled ruled next shown stepOf streak serving climbed sinceCessation historyStatus historyShare historyRecovery historyWatts historyVars historyReport
+stopped d =
+    let e : _≡_ {A = ℕ} 0 1 = ap (λ (b : Board). getD (b .counters) 6 0) (d .keeps (calm ∷ calls 62001 1 ∷ []) (inl refl, (inl refl, tt))) in
+    omega arith
+
+-- two samples at nominal, and one at this frequency, all with power available: the share is 100
+abbrev hertz : ℕ → Slice
+hertz f = 1000 ∷ 1000 ∷ 1000 ∷ f ∷ 1 ∷ 10000 ∷ 10000 ∷ []
+
+abbrev steady : History
+steady = hertz 60000 ∷ hertz 60000 ∷ []
+
+pub riding-on : ¬ CeasesFarOutside ourEquipment (reportRidingOn quick)
+unfolding reportRidingOn all any within largest voltage broken inRange voltageRegion frequencyRegion regionOf curveFrom curve nameplate varsOf wattsOf streak serving climbed sinceCessation historyStatus historyShare historyRecovery historyWatts historyVars historyReport
+riding-on d =
+    let e : _≡_ {A = ℕ} 100 0 = d .nothing (hertz 62001) steady (inr (omega arith)) .0 in
+    omega arith
+
+pub low-end : ¬ CeasesFarOutside ourEquipment (reportCeasingAt 57000 quick)
+unfolding reportCeasingAt all any within largest voltage broken inRange voltageRegion frequencyRegion regionOf curveFrom curve nameplate varsOf wattsOf streak serving climbed sinceCessation historyStatus historyShare historyRecovery historyWatts historyVars historyReport
+low-end d = false≢true (d .rides (hertz 57000) steady (omega arith) (omega arith) refl .1 (refl, refl))
+
+pub high-end : ¬ CeasesFarOutside ourEquipment (reportCeasingAt 62000 quick)
+unfolding reportCeasingAt all any within largest voltage broken inRange voltageRegion frequencyRegion regionOf curveFrom curve nameplate varsOf wattsOf streak serving climbed sinceCessation historyStatus historyShare historyRecovery historyWatts historyVars historyReport
+high-end d = false≢true (d .rides (hertz 62000) steady (omega arith) (omega arith) refl .1 (refl, refl))
+
+pub momentary : ¬ CeasesFarOutside ourEquipment (reportMomentary quick)
+unfolding reportMomentary all any within largest voltage broken inRange voltageRegion frequencyRegion regionOf curveFrom curve nameplate varsOf wattsOf streak serving climbed sinceCessation historyStatus historyShare historyRecovery historyWatts historyVars historyReport
+momentary d =
+    let e : _≡_ {A = ℕ} 4 5 = d .ceased (hertz 56999) steady (inl (omega arith)) refl .0 in
     omega arith
 
 -- ---- a sham report

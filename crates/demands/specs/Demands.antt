@@ -53,6 +53,7 @@ use Rattle.claims.specs.Calls.{Program, ruledBy, Operations, operationsBy}
 use Rattle.claims.specs.Sound.{Sound}
 use Rattle.claims.specs.Alike.{Alike}
 use Rattle.claims.specs.Recovery.{RestoresPower}
+use Rattle.claims.specs.FarFrequency.{CeasesFarOutside}
 use Rattle.claims.specs.Powers.{LargestBeside, RisingPoints, FollowsPoints}
 use Rattle.claims.specs.FirstCause.{RefusesRightly}
 use Rattle.claims.specs.SheetCauses.{SheetsRefusedRightly}
@@ -85,7 +86,7 @@ use Rattle.demands.specs.Edges.{EdgesHold}
 use Rattle.demands.specs.Lent.{LentRead}
 use Rattle.demands.specs.Shams.{exampleSheet, tripsEarly, inventsCounters, alwaysTripped, repeatsFirst, keepsRecord, turnsAway}
 use Rattle.demands.specs.Shams.{inventsBits, hidesTrips, saysTripped, savedWithoutRamp, savedWithoutNinth, savedWithoutRecovery, reportWithoutBits, refusesNoWait}
-use Rattle.demands.specs.Shams.{reportFullAtOnce, reportUnheld, reportWithheld}
+use Rattle.demands.specs.Shams.{reportFullAtOnce, reportUnheld, reportWithheld, stopsCounting, reportRidingOn, reportCeasingAt, reportMomentary}
 use Rattle.demands.specs.Shams.{takesAsLent, takesUnended, largeNoNumber, stepsUnended, stepsPastReturn}
 use Rattle.demands.specs.Shams.{turnsAwayLastCode, goesOn, saysNothing}
 use Rattle.demands.specs.ShamCarryOvers.{addedFirst, roomFirst, dropsAny, carriesWhatFits, appendsLess, swapsForward, swapsBack}
@@ -305,6 +306,13 @@ pub record PowerLaws : Type 0 where
 abbrev pub OurRecovery : Type 0
 OurRecovery = (st : Settings) → settingsAccepted st ≡ true → RestoresPower ourEquipment st (historyReport ourEquipment st)
 
+-- No power where the frequency is far outside, below 57.0 Hz or above 62.0 Hz, where the standard asks for no ride-through: `CeasesFarOutside` in claims/specs/FarFrequency.antt, of the reports
+-- of histories too. Whatever the voltages and whatever came before, there are no watts and no vars there; a board that is in service after the sample ceases to energize, with a recovery count of
+-- 0; a tripped one does not return. From 57000 to 62000, both included, the frequency is no reason to stop: in service the status is one that gives power exactly where neither voltage's region is
+-- a cessation. (Counters run there as anywhere: what `keeps` and `trips` of demand 2 count asks after no region.)
+abbrev pub OurFarFrequency : Type 0
+OurFarFrequency = (st : Settings) → settingsAccepted st ≡ true → CeasesFarOutside ourEquipment (historyReport ourEquipment st)
+
 -- ---- images carried over
 
 -- Images of the old firmware, from before the recovery count, which have 45 bytes, carried forward to this one, and images of this one carried back: carryover/specs/Carries.antt, of
@@ -403,6 +411,15 @@ pub record ShamRecoveryCaught : Type 0 where
   pub unheld : ¬ RestoresPower ourEquipment (exampleSheet 0) (reportUnheld (exampleSheet 0))
   pub withheld : ¬ RestoresPower ourEquipment (exampleSheet 0) (reportWithheld (exampleSheet 0))
 
+-- Five shams do not do as they should at such frequencies: one goes on giving power far outside; two cease at an end that still belongs to ride-through, 57000 and 62000; one shows momentary
+-- cessation; and the limits' counters of one stop far outside, which is demand 2's to find.
+pub record ShamFarFrequencyCaught : Type 0 where
+  pub riding-on : ¬ CeasesFarOutside ourEquipment (reportRidingOn (exampleSheet 0))
+  pub low-end : ¬ CeasesFarOutside ourEquipment (reportCeasingAt 57000 (exampleSheet 0))
+  pub high-end : ¬ CeasesFarOutside ourEquipment (reportCeasingAt 62000 (exampleSheet 0))
+  pub momentary : ¬ CeasesFarOutside ourEquipment (reportMomentary (exampleSheet 0))
+  pub stopped : ¬ TripAndReturn ourEquipment stopsCounting (exampleSheet 0)
+
 -- Demand 1 is false of operations that refuse a good sample and leave the record; that refuse as they should and change the record; that look at
 -- the sample before the settings; and that write into a buffer which they refuse. It is false of a reading that turns away a good sheet, and of
 -- one that refuses as it should with another line, whatever they hand back; and of our reading with another part handed back.
@@ -461,6 +478,9 @@ AnyTwoHistories = (e : Equipment) → Sound e → Demand3 e (ruledBy e)
 
 abbrev pub AnyRecovery : Type 0
 AnyRecovery = (e : Equipment) → Sound e → (st : Settings) → settingsAccepted st ≡ true → RestoresPower e st (historyReport e st)
+
+abbrev pub AnyFarFrequency : Type 0
+AnyFarFrequency = (e : Equipment) → Sound e → (st : Settings) → settingsAccepted st ≡ true → CeasesFarOutside e (historyReport e st)
 
 abbrev pub AnyWayBack : Type 0
 AnyWayBack = (e : Equipment) → Sound e → (st : Settings) → settingsAccepted st ≡ true → CarriesHistoriesBack ourBack (ruledBy e) st

@@ -12,11 +12,19 @@ use Rattle.rules.specs.Regions.{regionOf, ourEquipment}
 use Rattle.rules.specs.Curves.{curve, nameplate}
 use Rattle.rules.specs.Defaults.{defaultSettings}
 use Rattle.rules.specs.declared.Region.{Region}
-use Rattle.rules.specs.declared.Region.the-variants.{Momentary, Cease}
+use Rattle.rules.specs.declared.Region.the-variants.{Continuous, Mandatory, Momentary, Cease}
 
--- all three phases at one code, frequency 60000
+-- all three phases at one code
+abbrev sampleOf : ℕ → ℕ → Slice
+sampleOf code hertz = code ∷ code ∷ code ∷ hertz ∷ 1 ∷ 10000 ∷ 10000 ∷ []
+
+-- frequency 60000
 abbrev pub flat : ℕ → Slice
-flat code = code ∷ code ∷ code ∷ 60000 ∷ 1 ∷ 10000 ∷ 10000 ∷ []
+flat code = sampleOf code 60000
+
+-- code 1000, voltage 10000
+abbrev pub nominalAt : ℕ → Slice
+nominalAt hertz = sampleOf 1000 hertz
 
 -- what a row says
 pub data Edge : Type 0 where
@@ -24,6 +32,7 @@ pub data Edge : Type 0 where
   uv1Broken : (code : ℕ) → Bool → Edge
   ov2Broken : (code : ℕ) → Bool → Edge
   isIn : (code : ℕ) → Region → Edge
+  isInAt : (hertz : ℕ) → Region → Edge
   varsAt : (volts : ℕ) → ℤ → Edge
   wattsAt : (volts : ℕ) → ℤ → Edge
   nameplateLeaves : (vars : ℤ) → (watts : ℕ) → Edge
@@ -34,6 +43,7 @@ Holds (gives code volts) = voltage code ≡ volts
 Holds (uv1Broken code b) = broken ourEquipment undervoltage 8800 (flat code) ≡ b
 Holds (ov2Broken code b) = broken ourEquipment overvoltage 12000 (flat code) ≡ b
 Holds (isIn code region) = regionOf ourEquipment (flat code) ≡ region
+Holds (isInAt hertz region) = regionOf ourEquipment (nominalAt hertz) ≡ region
 Holds (varsAt volts vars) = curve (defaultSettings .var) volts ≡ vars
 Holds (wattsAt volts watts) = curve (defaultSettings .watt) volts ≡ watts
 Holds (nameplateLeaves vars watts) = nameplate vars ≡ watts
@@ -52,6 +62,14 @@ edges =
     ∷ gives 1441 12004
     ∷ isIn 1441 Cease
     ∷ gives 4095 20236
+    ∷ isInAt 56999 Cease
+    ∷ isInAt 57000 Mandatory
+    ∷ isInAt 58799 Mandatory
+    ∷ isInAt 58800 Continuous
+    ∷ isInAt 61200 Continuous
+    ∷ isInAt 61201 Mandatory
+    ∷ isInAt 62000 Mandatory
+    ∷ isInAt 62001 Cease
     ∷ varsAt 9500 (pos 2200)
     ∷ varsAt 9201 (pos 4393)
     ∷ varsAt 10201 (negℤ (pos 7))

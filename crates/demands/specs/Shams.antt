@@ -1,23 +1,23 @@
--- Spec 13.6: the sham boards that demand 2 must stop; sham images and reports that demand 3 must
--- stop; sham readings of sheets and of lines; sham answers to sample lines; and sham printings. Those that demand 1 must stop: ShamRefusals.antt.
+-- Spec 13.6, 13.12: the sham boards that demand 2 must stop; sham images and reports that demand 3 must
+-- stop; shams where the frequency is far outside; sham readings of sheets and of lines; sham answers to sample lines; and sham printings. Those that demand 1 must stop: ShamRefusals.antt.
 -- Assumes nothing.
-use mathlib.Core.Bool.{Bool, false, cond, _&&_}
+use mathlib.Core.Bool.{Bool, false, cond, not, _&&_}
 use mathlib.Core.List.{List, [], _∷_, _++_, map}
 use mathlib.Core.Option.{Option, none, some}
-use Prim.Native.Nat.{ℕ, suc, _-_, _*_, _/_, max}
+use Prim.Native.Nat.{ℕ, suc, _-_, _*_, _/_, min, max}
 use lib.Dec.{eqb, leb}
 use lib.IntN.{ℤ, pos, natAbs, negℤ}
 use lib.ListN.{replicate, set, take, drop}
-use Rattle.rules.specs.Tests.{all, any}
+use Rattle.rules.specs.Tests.{all, any, within}
 use Rattle.rules.specs.Text.{feed, afterLine}
 use Rattle.rules.specs.Forms.{numbersOf}
 use Rattle.rules.specs.Sheets.{SheetReading, refusedAt, readSheet}
-use Rattle.rules.specs.Samples.{Slice}
+use Rattle.rules.specs.Samples.{Slice, frequency, permitted}
 use Rattle.rules.specs.Regions.{ourEquipment}
 use Rattle.rules.specs.Reports.{Items, reportOf}
 use Rattle.rules.specs.History.{History, historyReport}
 use Rattle.rules.specs.Images.{savedInto}
-use Rattle.rules.specs.Service.{inService, recoveryTop, wattsOf}
+use Rattle.rules.specs.Service.{inService, recoveryTop, varsOf, wattsOf}
 use Rattle.rules.specs.Refusals.{answerNumber}
 use Rattle.rules.specs.Records.{fresh, settled, ruled, shown, stepOf}
 use Rattle.rules.specs.Defaults.{defaultSettings}
@@ -233,6 +233,52 @@ unfoldable pub reportWithheld : Settings → History → Items
 reportWithheld st h =
     let r = historyReport ourEquipment st h in
     withRecovery (r .recovery) (cond (eqb (r .recovery) recoveryTop) (r .watts) 0) r
+
+-- ---- shams where the frequency is far outside
+
+abbrev farOutside : Slice → Bool
+farOutside x = not (within 57000 62000 (frequency x))
+
+-- its limits' counters stop there: a board in service ceases to energize for as long as permission is on
+unfoldable pub stopsCounting : Program
+stopsCounting =
+    record {
+      start = fresh;
+      step = λ b st x.
+          let t = honest b st x in
+          let on = inService (b .status) && permitted x in
+          let held = settled ourEquipment st x (take 8 (b .counters) ++ (0 ∷ [])) on (cond on (b .ramp) 0) (cond on 0 recoveryTop) in
+          cond (farOutside x && eqb (answerNumber (t .answer)) 0) (reporting st held) t;
+    }
+
+-- it goes on giving power there, in mandatory operation, whatever the voltages: with a full recovery count, as much as the other limits leave
+unfoldable pub reportRidingOn : Settings → History → Items
+reportRidingOn st [] = historyReport ourEquipment st []
+reportRidingOn st (x ∷ h) =
+    let r = historyReport ourEquipment st (x ∷ h) in
+    let riding : Items = record {
+      status = 3;
+      bits = r .bits;
+      share = r .share;
+      recovery = recoveryTop;
+      watts = wattsOf ourEquipment st x 3 (r .share) recoveryTop;
+      vars = varsOf ourEquipment st x 3;
+    } in
+    cond (farOutside x && inService (r .status)) riding r
+
+-- it ceases to energize at a sample of this frequency, too
+unfoldable pub reportCeasingAt : ℕ → Settings → History → Items
+reportCeasingAt end st [] = historyReport ourEquipment st []
+reportCeasingAt end st (x ∷ h) =
+    let r = historyReport ourEquipment st (x ∷ h) in
+    let ceased : Items = record { status = 5; bits = r .bits; share = r .share; recovery = 0; watts = 0; vars = pos 0 } in
+    cond (eqb (frequency x) end && inService (r .status)) ceased r
+
+-- it shows momentary cessation where it ceases to energize
+unfoldable pub reportMomentary : Settings → History → Items
+reportMomentary st h =
+    let r = historyReport ourEquipment st h in
+    record { status = min 4 (r .status); bits = r .bits; share = r .share; recovery = r .recovery; watts = r .watts; vars = r .vars }
 
 -- ---- sham readings of sheets
 

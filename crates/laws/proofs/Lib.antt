@@ -5,6 +5,8 @@ pub mod Counting
 pub mod Trace
 pub mod Bits
 pub mod Recovery
+pub mod FarFrequency
+pub mod Regions
 pub mod Trip
 pub mod Demand2
 pub mod Saturating

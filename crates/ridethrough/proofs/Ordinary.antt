@@ -21,14 +21,14 @@ module _ (r : Reading) (s : Settings) (ok : settingsAccepted s ≡ true) (e : en
   none k i l = breaks-none s ok (r .permit) (r .low) (r .high) (r .frequency) e k (limitAt s i .level) (l .level-in)
 
   unbroken : (n : ℕ) → n < 8 → hitAt r s n ≡ false
-  unbroken zero _ = none undervoltage 0 (limits-in s ok .0)
-  unbroken (suc zero) _ = none undervoltage 1 (limits-in s ok .1 .0)
-  unbroken (suc (suc zero)) _ = none overvoltage 2 (limits-in s ok .1 .1 .0)
-  unbroken (suc (suc (suc zero))) _ = none overvoltage 3 (limits-in s ok .1 .1 .1 .0)
-  unbroken (suc (suc (suc (suc zero)))) _ = none underfrequency 4 (limits-in s ok .1 .1 .1 .1 .0)
-  unbroken (suc (suc (suc (suc (suc zero))))) _ = none underfrequency 5 (limits-in s ok .1 .1 .1 .1 .1 .0)
-  unbroken (suc (suc (suc (suc (suc (suc zero)))))) _ = none overfrequency 6 (limits-in s ok .1 .1 .1 .1 .1 .1 .0)
-  unbroken (suc (suc (suc (suc (suc (suc (suc zero))))))) _ = none overfrequency 7 (limits-in s ok .1 .1 .1 .1 .1 .1 .1 .0)
+  unbroken zero _ = rw (none undervoltage 0 (limits-in s ok .0))
+  unbroken (suc zero) _ = rw (none undervoltage 1 (limits-in s ok .1 .0))
+  unbroken (suc (suc zero)) _ = rw (none overvoltage 2 (limits-in s ok .1 .1 .0))
+  unbroken (suc (suc (suc zero))) _ = rw (none overvoltage 3 (limits-in s ok .1 .1 .1 .0))
+  unbroken (suc (suc (suc (suc zero)))) _ = rw (none underfrequency 4 (limits-in s ok .1 .1 .1 .1 .0))
+  unbroken (suc (suc (suc (suc (suc zero))))) _ = rw (none underfrequency 5 (limits-in s ok .1 .1 .1 .1 .1 .0))
+  unbroken (suc (suc (suc (suc (suc (suc zero)))))) _ = rw (none overfrequency 6 (limits-in s ok .1 .1 .1 .1 .1 .1 .0))
+  unbroken (suc (suc (suc (suc (suc (suc (suc zero))))))) _ = rw (none overfrequency 7 (limits-in s ok .1 .1 .1 .1 .1 .1 .1 .0))
   unbroken (suc (suc (suc (suc (suc (suc (suc (suc n)))))))) h = absurd (omega arith)
 
   continuous : regionAt r ≡ Continuous

@@ -5,6 +5,7 @@ ghost use Rattle.rules.specs.Regions.{voltageRegion, frequencyRegion, rank, wor
 ghost use Rattle.rules.specs.declared.Region.the-variants.{Continuous};
 ghost use Rattle.ridethrough.specs.Rules.{regionAt};
 use readings::reading::Reading;
+use readings::reading::within;
 use rules::Region;
 
 // The region of a voltage (Category III).
@@ -24,16 +25,17 @@ pub fn voltage_region(v: u32) -> Region
     }
 }
 
+// The region of a frequency. Ride-through ends at 57000 and 62000, both still in it; beyond them the board ceases to energize.
 pub fn frequency_region(f: u32) -> Region
     ensures { λ r. ⌜ r ≡ frequencyRegion f ⌝ }
 {
-    if f < 58800 {
-        return Region::Mandatory;
+    if within(58800, 61200, f) {
+        return Region::Continuous;
     }
-    if 61200 < f {
-        return Region::Mandatory;
+    if !within(57000, 62000, f) {
+        return Region::Cease;
     }
-    Region::Continuous
+    Region::Mandatory
 }
 
 // Continuous, mandatory, momentary, cease.

@@ -20,9 +20,12 @@ voltageRegion v =
     (cond (leb 5000 v) Mandatory
     Momentary)))
 
--- spec 6.8: of a frequency
+-- spec 6.8: of a frequency; no ride-through is asked for below 57.0 Hz or above 62.0 Hz
 unfoldable pub frequencyRegion : ℕ → Region
-frequencyRegion f = cond (within 58800 61200 f) Continuous Mandatory
+frequencyRegion f =
+    cond (within 58800 61200 f) Continuous
+    (cond (within 57000 62000 f) Mandatory
+    Cease)
 
 -- spec 6.9: from good to bad
 abbrev pub rank : Region → ℕ
