@@ -24,14 +24,14 @@ for path in $(grep -oE '[A-Za-z.]+(/[A-Za-z0-9_.-]+)+' README.md | grep -vE '^ta
     esac
 done
 
-# A statement is a line of the table there; each statement of the page has one.
-page=crates/demands/specs/Demands.antt
-for statement in $(sed -nE 's/^(abbrev )?pub (record )?([A-Z][A-Za-z]*) :.*/\3/p' $page); do
+# A statement is a line of the table there; each statement of the two pages has one.
+pages="crates/demands/specs/Demands.antt crates/demands/specs/Caught.antt"
+for statement in $(sed -nE 's/^(abbrev )?pub (record )?([A-Z][A-Za-z]*) :.*/\3/p' $pages); do
     grep -qE "^\|[^|]*\`$statement\`[^|]*\|[^|]*\|[^|]*\|[^|]*\|$" README.md
     expect $? "no line for the statement $statement"
 done
 for statement in $(grep -E '^\|([^|]*\|){4}$' README.md | cut -d '|' -f 2 | grep -oE '`[A-Z][A-Za-z]*`' | tr -d '`'); do
-    grep -qE "pub (record )?$statement :" $page
+    grep -qE "pub (record )?$statement :" $pages
     expect $? "no statement $statement"
 done
 

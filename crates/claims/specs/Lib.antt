@@ -8,7 +8,7 @@ pub mod Alike
 pub mod FirstCause
 pub mod SheetCauses
 pub mod Recovery
-pub mod FarFrequency
+pub mod RideThroughEnds
 pub mod TripAndReturn
 pub mod TwoHistories
 pub mod Printed

@@ -17,7 +17,7 @@ use Rattle.laws.proofs.SheetCauses.{sheets-refused-rightly}
 use Rattle.laws.proofs.Demand2.{demand2, reports-trip, counter-rule}
 use Rattle.laws.proofs.Demand3.{demand3}
 use Rattle.laws.proofs.Recovery.{restores-power}
-use Rattle.laws.proofs.FarFrequency.{ceases-far-outside}
+use Rattle.laws.proofs.RideThroughEnds.{ceases-beyond-ride-through}
 use Rattle.laws.proofs.Bits.{bits-unpacked, reports-items, two-histories-reported}
 use Rattle.laws.proofs.LentRecords.{reads-records}
 use Rattle.laws.proofs.Printed.{words-tell}
@@ -38,12 +38,12 @@ use Rattle.program.proofs.Standing.{standing-law}
 use Rattle.demands.specs.Demands.{ours, OurRefusals, OurSheetRefusals, OurTranscript, OurTripAndReturn, OurTwoHistories, SheetsReadBack, SheetsWrittenOut}
 use Rattle.demands.specs.Demands.{OneSheetReading, DefaultSheetWritten, UnderAcceptedTexts, LinesOfForms, SampleLinesAnswered, OneSampleAnswer}
 use Rattle.demands.specs.Demands.{AcceptedSamplesWritable, SampleLinesReadBack, SampleLinesWrittenOut, EveryCounter, SensingRule, EdgeValues}
-use Rattle.demands.specs.Demands.{ShamsCaught, ShamImagesCaught, ShamReadingsCaught, AnyTripAndReturn, AnyTwoHistories, OurEquipmentSound}
+use Rattle.demands.specs.Demands.{AnyTripAndReturn, AnyTwoHistories, OurEquipmentSound}
 use Rattle.demands.specs.Demands.{PowerLaws, OurSessions, SessionsPrinted}
 use Rattle.demands.specs.Demands.{AlikeEquipmentStepsAlike, OurPrinted, OnePrinting, SamplesOnLines, StatusWordsTell, BitsUnpacked}
-use Rattle.demands.specs.Demands.{ReportsAreItems, OurTwoHistoriesReported, OurRecovery, AnyRecovery, ShamRecoveryCaught}
-use Rattle.demands.specs.Demands.{OurFarFrequency, AnyFarFrequency, ShamFarFrequencyCaught}
-use Rattle.demands.specs.Demands.{OurLentRecords, LentValues, RightReportsTrip, ShamRefusalsCaught, ShamReportsCaught, ShamPrintingsCaught}
+use Rattle.demands.specs.Demands.{ReportsAreItems, OurTwoHistoriesReported, OurRecovery, AnyRecovery}
+use Rattle.demands.specs.Demands.{OurRideThroughEnds, AnyRideThroughEnds}
+use Rattle.demands.specs.Demands.{OurLentRecords, LentValues, RightReportsTrip}
 use Rattle.claims.specs.TripAndReturn.{Demand2}
 use Rattle.claims.specs.TwoHistories.{Demand3}
 use Rattle.replay.proofs.Groups.{by-seven}
@@ -51,8 +51,8 @@ use Rattle.replay.proofs.Demanded.{replays-rightly}
 use Rattle.saltdelta.proofs.Refusals.{exported-refuse}
 use Rattle.saltdelta.proofs.Exported.{board-is, exported-replay}
 use Rattle.demands.specs.Demands.{ExportedRefusals, ExportedDemands, ExportedUnderTexts, OurReplay, ExportedReplay, ReplayGroups}
-use Rattle.demands.specs.Demands.{OurCarryOver, OneCarryOver, OurWayBack, AnyWayBack, ShamCarryOversCaught}
-use Rattle.demands.specs.Demands.{OurRules, OneRuling, AnyRules, ExportedRules, ShamRulesCaught}
+use Rattle.demands.specs.Demands.{OurCarryOver, OneCarryOver, OurWayBack, AnyWayBack}
+use Rattle.demands.specs.Demands.{OurRules, OneRuling, AnyRules, ExportedRules}
 use Rattle.demands.specs.Demands.{CodeContracts, CodeMeetsContracts}
 use Rattle.carryover.proofs.Carrying.{refused-rightly, round-trips}
 use Rattle.carryover.proofs.Numbered.{numbered}
@@ -62,24 +62,14 @@ use Rattle.explain.proofs.Naming.{names-status, one-status-rule, names-watts, o
 use Rattle.explain.proofs.OnRecords.{names-on-records}
 use Rattle.explain.proofs.Numbers.{numbers-tell}
 use Rattle.saltdelta.proofs.Explaining.{explains-in-numbers}
-use Rattle.demands.proofs.ShamRules.{waits, turned, best, last, mandatory}
 use Rattle.demands.proofs.Contracts.{contracts-say, code-meets}
 use Rattle.demands.proofs.CarryOver.{carries-records, histories-back}
 use Rattle.demands.proofs.OneCarryOver.{one-carry-over}
-use Rattle.demands.proofs.ShamCarryOvers.{added-first, room-first, what-fits, appends-less, drops-any, swaps-caught}
 use Rattle.demands.proofs.Edges.{edges-hold}
 use Rattle.demands.proofs.Lent.{lent-read}
 use Rattle.demands.proofs.Printed.{prints-by-history, one-printing, samples-on-lines}
 use Rattle.demands.proofs.Writable.{accepted-writable}
 use Rattle.demands.proofs.Sound.{our-equipment-sound}
-use Rattle.demands.proofs.Shams.{quick-accepted, waiting-accepted, early, invented, tripped, repeated, kept, refusing, leaving, as-lent}
-use Rattle.demands.proofs.Shams.{no-ramp, no-ninth, no-recovery, no-bits, full-at-once, unheld, withheld}
-use Rattle.demands.proofs.Shams.{stopped, riding-on, low-end, high-end, momentary}
-use Rattle.demands.proofs.ShamStatus.{only-reports, only-trips, only-returns}
-use Rattle.demands.proofs.ShamReadings.{turned-away, let-in}
-use Rattle.demands.proofs.ShamPrintings.{no-more, not-nothing}
-use Rattle.demands.proofs.ShamLines.{no-large, no-unended, no-return}
-use Rattle.demands.proofs.ShamRefusals.{last-code, reading-stored, sample-first, written-short, good-sheet, from-zero, rest-handed}
 
 pub ourRefusals : OurRefusals
 ourRefusals = refuses-rightly ourEquipment
@@ -189,8 +179,8 @@ powerLaws =
 pub ourRecovery : OurRecovery
 ourRecovery st ok = restores-power ourEquipment st our-equipment-sound ok
 
-pub ourFarFrequency : OurFarFrequency
-ourFarFrequency st ok = ceases-far-outside ourEquipment st our-equipment-sound ok
+pub ourRideThroughEnds : OurRideThroughEnds
+ourRideThroughEnds st ok = ceases-beyond-ride-through ourEquipment st our-equipment-sound ok
 
 pub ourCarryOver : OurCarryOver
 ourCarryOver =
@@ -220,72 +210,14 @@ oneRuling = record { status = one-status-rule ourEquipment; watts = one-watts-ru
 pub edgeValues : EdgeValues
 edgeValues = edges-hold
 
-pub shamsCaught : ShamsCaught
-shamsCaught =
-    record {
-      accepted = quick-accepted;
-      early = early;
-      invented = invented;
-      tripped = tripped;
-      repeated = repeated;
-      kept = kept;
-      refusing = refusing;
-      leaving = leaving;
-    }
-
-pub shamReportsCaught : ShamReportsCaught
-shamReportsCaught = record { bits = only-reports; trips = only-trips; returns = only-returns }
-
-pub shamRefusalsCaught : ShamRefusalsCaught
-shamRefusalsCaught =
-    record {
-      sample = last-code;
-      changed = reading-stored;
-      order = sample-first;
-      written = written-short;
-      sheet = good-sheet;
-      line = from-zero;
-      part = rest-handed;
-    }
-
-pub shamImagesCaught : ShamImagesCaught
-shamImagesCaught = record { accepted = (quick-accepted, waiting-accepted); ramp = no-ramp; ninth = no-ninth; recovery = no-recovery; bits = no-bits }
-
-pub shamRecoveryCaught : ShamRecoveryCaught
-shamRecoveryCaught = record { shown = full-at-once; unheld = unheld; withheld = withheld }
-
-pub shamFarFrequencyCaught : ShamFarFrequencyCaught
-shamFarFrequencyCaught = record { riding-on = riding-on; low-end = low-end; high-end = high-end; momentary = momentary; stopped = stopped }
-
-pub shamReadingsCaught : ShamReadingsCaught
-shamReadingsCaught =
-    record { goodSheet = turned-away; unended = let-in; large = no-large; unendedSample = no-unended; carriageReturn = no-return; asLent = as-lent }
-
-pub shamPrintingsCaught : ShamPrintingsCaught
-shamPrintingsCaught = record { goes-on = no-more; nothing = not-nothing }
-
-pub shamCarryOversCaught : ShamCarryOversCaught
-shamCarryOversCaught =
-    record {
-      added-first = added-first;
-      room-first = room-first;
-      written = what-fits;
-      appended = appends-less;
-      dropped = drops-any;
-      swaps = swaps-caught;
-    }
-
-pub shamRulesCaught : ShamRulesCaught
-shamRulesCaught = record { waits = waits; turned = turned; best = best; last = last; mandatory = mandatory }
-
 pub anyTripAndReturn : AnyTripAndReturn
 anyTripAndReturn e sound = demand2 e sound
 
 pub anyRecovery : AnyRecovery
 anyRecovery e sound st ok = restores-power e st sound ok
 
-pub anyFarFrequency : AnyFarFrequency
-anyFarFrequency e sound st ok = ceases-far-outside e st sound ok
+pub anyRideThroughEnds : AnyRideThroughEnds
+anyRideThroughEnds e sound st ok = ceases-beyond-ride-through e st sound ok
 
 pub anyWayBack : AnyWayBack
 anyWayBack = histories-back

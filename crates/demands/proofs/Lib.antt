@@ -16,3 +16,4 @@ pub mod OneCarryOver
 pub mod Contracts
 pub mod ShamRules
 pub mod Demands
+pub mod Caught

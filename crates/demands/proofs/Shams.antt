@@ -29,7 +29,7 @@ use Rattle.rules.specs.Refusals.{answerNumber}
 use Rattle.claims.specs.TripAndReturn.{recordOf, TripAndReturn}
 use Rattle.claims.specs.LentRecords.{ReadsRecords}
 use Rattle.claims.specs.Recovery.{RestoresPower}
-use Rattle.claims.specs.FarFrequency.{CeasesFarOutside}
+use Rattle.claims.specs.RideThroughEnds.{CeasesBeyondRideThrough}
 use Rattle.claims.specs.TwoHistories.{TwoHistoriesBy}
 use Rattle.demands.specs.Shams.{exampleSheet, tripsEarly, inventsCounters, alwaysTripped, repeatsFirst, keepsRecord, turnsAway, takesAsLent}
 use Rattle.demands.specs.ShamRefusals.{refusesLastCode}
@@ -198,21 +198,21 @@ hertz f = 1000 ∷ 1000 ∷ 1000 ∷ f ∷ 1 ∷ 10000 ∷ 10000 ∷ []
 abbrev steady : History
 steady = hertz 60000 ∷ hertz 60000 ∷ []
 
-pub riding-on : ¬ CeasesFarOutside ourEquipment (reportRidingOn quick)
+pub riding-on : ¬ CeasesBeyondRideThrough ourEquipment (reportRidingOn quick)
 unfolding reportRidingOn all any within largest voltage broken inRange voltageRegion frequencyRegion regionOf curveFrom curve nameplate varsOf wattsOf streak serving climbed sinceCessation historyStatus historyShare historyRecovery historyWatts historyVars historyReport
 riding-on d =
     let e : _≡_ {A = ℕ} 100 0 = d .nothing (hertz 62001) steady (inr (omega arith)) .0 in
     omega arith
 
-pub low-end : ¬ CeasesFarOutside ourEquipment (reportCeasingAt 57000 quick)
+pub low-end : ¬ CeasesBeyondRideThrough ourEquipment (reportCeasingAt 57000 quick)
 unfolding reportCeasingAt all any within largest voltage broken inRange voltageRegion frequencyRegion regionOf curveFrom curve nameplate varsOf wattsOf streak serving climbed sinceCessation historyStatus historyShare historyRecovery historyWatts historyVars historyReport
 low-end d = false≢true (d .rides (hertz 57000) steady (omega arith) (omega arith) refl .1 (refl, refl))
 
-pub high-end : ¬ CeasesFarOutside ourEquipment (reportCeasingAt 62000 quick)
+pub high-end : ¬ CeasesBeyondRideThrough ourEquipment (reportCeasingAt 62000 quick)
 unfolding reportCeasingAt all any within largest voltage broken inRange voltageRegion frequencyRegion regionOf curveFrom curve nameplate varsOf wattsOf streak serving climbed sinceCessation historyStatus historyShare historyRecovery historyWatts historyVars historyReport
 high-end d = false≢true (d .rides (hertz 62000) steady (omega arith) (omega arith) refl .1 (refl, refl))
 
-pub momentary : ¬ CeasesFarOutside ourEquipment (reportMomentary quick)
+pub momentary : ¬ CeasesBeyondRideThrough ourEquipment (reportMomentary quick)
 unfolding reportMomentary all any within largest voltage broken inRange voltageRegion frequencyRegion regionOf curveFrom curve nameplate varsOf wattsOf streak serving climbed sinceCessation historyStatus historyShare historyRecovery historyWatts historyVars historyReport
 momentary d =
     let e : _≡_ {A = ℕ} 4 5 = d .ceased (hertz 56999) steady (inl (omega arith)) refl .0 in

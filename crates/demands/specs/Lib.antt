@@ -6,3 +6,4 @@ pub mod Lent
 pub mod Contracts
 pub mod ShamRules
 pub mod Demands
+pub mod Caught

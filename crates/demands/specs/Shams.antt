@@ -236,8 +236,8 @@ reportWithheld st h =
 
 -- ---- shams where the frequency is far outside
 
-abbrev farOutside : Slice → Bool
-farOutside x = not (within 57000 62000 (frequency x))
+abbrev beyondRideThrough : Slice → Bool
+beyondRideThrough x = not (within 57000 62000 (frequency x))
 
 -- its limits' counters stop there: a board in service ceases to energize for as long as permission is on
 unfoldable pub stopsCounting : Program
@@ -248,7 +248,7 @@ stopsCounting =
           let t = honest b st x in
           let on = inService (b .status) && permitted x in
           let held = settled ourEquipment st x (take 8 (b .counters) ++ (0 ∷ [])) on (cond on (b .ramp) 0) (cond on 0 recoveryTop) in
-          cond (farOutside x && eqb (answerNumber (t .answer)) 0) (reporting st held) t;
+          cond (beyondRideThrough x && eqb (answerNumber (t .answer)) 0) (reporting st held) t;
     }
 
 -- it goes on giving power there, in mandatory operation, whatever the voltages: with a full recovery count, as much as the other limits leave
@@ -264,7 +264,7 @@ reportRidingOn st (x ∷ h) =
       watts = wattsOf ourEquipment st x 3 (r .share) recoveryTop;
       vars = varsOf ourEquipment st x 3;
     } in
-    cond (farOutside x && inService (r .status)) riding r
+    cond (beyondRideThrough x && inService (r .status)) riding r
 
 -- it ceases to energize at a sample of this frequency, too
 unfoldable pub reportCeasingAt : ℕ → Settings → History → Items

@@ -5,7 +5,7 @@ pub mod Counting
 pub mod Trace
 pub mod Bits
 pub mod Recovery
-pub mod FarFrequency
+pub mod RideThroughEnds
 pub mod Regions
 pub mod Trip
 pub mod Demand2

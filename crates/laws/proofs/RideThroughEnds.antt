@@ -1,4 +1,4 @@
--- Where the frequency is far outside there is no power (spec 13.12): the worst region of the three is then cease.
+-- Where the frequency is beyond ride-through there is no power (spec 13.12): the worst region of the three is then cease.
 -- Assumes nothing.
 use mathlib.Core.Path.{_≡_, refl, sym, ap, _∙_}
 use mathlib.Core.Bool.{Bool, true, false, cond, not, _&&_, true≢false}
@@ -19,7 +19,7 @@ use Rattle.rules.specs.declared.Settings.{Settings}
 use Rattle.rules.specs.declared.Region.{Region}
 use Rattle.rules.specs.declared.Region.the-variants.{Continuous, Mandatory, Momentary, Cease}
 use Rattle.claims.specs.Sound.{Sound}
-use Rattle.claims.specs.FarFrequency.{FarOutside, CeasesFarOutside}
+use Rattle.claims.specs.RideThroughEnds.{BeyondRideThrough, CeasesBeyondRideThrough}
 use Rattle.basics.proofs.Bools.{true-within}
 use Rattle.laws.proofs.Regions.{rank-worst}
 use Rattle.laws.proofs.Demand2.{service-of, tripped-of, tripped-status}
@@ -40,10 +40,10 @@ above low high n p = rw (lt-leb n high p) (by (leb low n))
     by true = refl
     by false = refl
 
-far-ceases : (f : ℕ) → (f < 57000) ⊎ (62000 < f) → frequencyRegion f ≡ Cease
+beyond-ceases : (f : ℕ) → (f < 57000) ⊎ (62000 < f) → frequencyRegion f ≡ Cease
 unfolding frequencyRegion
-far-ceases f (inl p) = rw (below 58800 61200 f (omega (arith, p)), below 57000 62000 f p)
-far-ceases f (inr p) = rw (above 58800 61200 f (omega (arith, p)), above 57000 62000 f p)
+beyond-ceases f (inl p) = rw (below 58800 61200 f (omega (arith, p)), below 57000 62000 f p)
+beyond-ceases f (inr p) = rw (above 58800 61200 f (omega (arith, p)), above 57000 62000 f p)
 
 near-rides : (f : ℕ) → 57000 ≤ f → f ≤ 62000 → rank (frequencyRegion f) < 2
 unfolding frequencyRegion
@@ -61,12 +61,12 @@ worse-cease Mandatory = refl
 worse-cease Momentary = refl
 worse-cease Cease = refl
 
-far-region : (e : Equipment) (x : Slice) → FarOutside x → regionOf e x ≡ Cease
+beyond-region : (e : Equipment) (x : Slice) → BeyondRideThrough x → regionOf e x ≡ Cease
 unfolding regionOf
-far-region e x f =
+beyond-region e x f =
     let low = e .region (lowest e x) in
     let high = e .region (highest e x) in
-    ap (λ r. worse low (worse high r)) (far-ceases (frequency x) f) ∙ ap (worse low) (worse-cease high) ∙ worse-cease low
+    ap (λ r. worse low (worse high r)) (beyond-ceases (frequency x) f) ∙ ap (worse low) (worse-cease high) ∙ worse-cease low
 
 worst-rank : (e : Equipment) (x : Slice)
     → rank (regionOf e x) ≡ max (rank (e .region (lowest e x))) (max (rank (e .region (highest e x))) (rank (frequencyRegion (frequency x))))
@@ -97,21 +97,21 @@ silent-status true full = refl
 -- ---- of histories
 
 module _ (e : Equipment) (st : Settings) where
-  silent : (x : Slice) (h : History) → FarOutside x → exports (historyStatus e st (x ∷ h)) ≡ false
+  silent : (x : Slice) (h : History) → BeyondRideThrough x → exports (historyStatus e st (x ∷ h)) ≡ false
   unfolding historyStatus
-  silent x h f = rw (far-region e x f) (silent-status (serving e st (x ∷ h)) (leb (st .ramp) (climbed e st (x ∷ h))))
+  silent x h f = rw (beyond-region e x f) (silent-status (serving e st (x ∷ h)) (leb (st .ramp) (climbed e st (x ∷ h))))
 
-  no-watts : (x : Slice) (h : History) → FarOutside x → historyWatts e st (x ∷ h) ≡ 0
+  no-watts : (x : Slice) (h : History) → BeyondRideThrough x → historyWatts e st (x ∷ h) ≡ 0
   unfolding historyWatts wattsOf
   no-watts x h f = rw (silent x h f)
 
-  no-vars : (x : Slice) (h : History) → FarOutside x → historyVars e st (x ∷ h) ≡ pos 0
+  no-vars : (x : Slice) (h : History) → BeyondRideThrough x → historyVars e st (x ∷ h) ≡ pos 0
   unfolding historyVars varsOf
   no-vars x h f = rw (silent x h f)
 
-  in-cease : (x : Slice) (h : History) → FarOutside x → serving e st (x ∷ h) ≡ true → historyStatus e st (x ∷ h) ≡ 5
+  in-cease : (x : Slice) (h : History) → BeyondRideThrough x → serving e st (x ∷ h) ≡ true → historyStatus e st (x ∷ h) ≡ 5
   unfolding historyStatus
-  in-cease x h f on = rw (on, far-region e x f)
+  in-cease x h f on = rw (on, beyond-region e x f)
 
   given-unless : (x : Slice) (h : History) → serving e st (x ∷ h) ≡ true → exports (historyStatus e st (x ∷ h)) ≡ not (ceases (regionOf e x))
   unfolding historyStatus
@@ -138,21 +138,21 @@ module _ (e : Equipment) (st : Settings) where
           given-unless x h on ∙ ap not (no-cessation (regionOf e x) .1 (omega (arith, a, b, c, worst-rank e x)))
 
   module _ (sound : Sound e) (ok : settingsAccepted st ≡ true) where
-    recovers-from-none : (x : Slice) (h : History) → FarOutside x → serving e st (x ∷ h) ≡ true → historyRecovery e st (x ∷ h) ≡ 0
+    recovers-from-none : (x : Slice) (h : History) → BeyondRideThrough x → serving e st (x ∷ h) ≡ true → historyRecovery e st (x ∷ h) ≡ 0
     unfolding historyReport within
     recovers-from-none x h f on = restores-power e st sound ok .ceased (x ∷ h) (ap (within 4 5) (in-cease x h f on))
 
     -- a return is in the continuous operation region
-    stays-tripped : (x : Slice) (h : History) → FarOutside x → serving e st h ≡ false → serving e st (x ∷ h) ≡ false
+    stays-tripped : (x : Slice) (h : History) → BeyondRideThrough x → serving e st h ≡ false → serving e st (x ∷ h) ≡ false
     stays-tripped x h f was = by (serving e st (x ∷ h)) refl
       where
         by : (on : Bool) → serving e st (x ∷ h) ≡ on → on ≡ false
         by false p = refl
-        by true p = absurd (true≢false (sym (ap ceases (far-region e x f)) ∙ ap ceases (return-continuous e st sound ok h x was p)))
+        by true p = absurd (true≢false (sym (ap ceases (beyond-region e x f)) ∙ ap ceases (return-continuous e st sound ok h x was p)))
 
-    pub ceases-far-outside : CeasesFarOutside e (historyReport e st)
+    pub ceases-beyond-ride-through : CeasesBeyondRideThrough e (historyReport e st)
     unfolding historyReport
-    ceases-far-outside =
+    ceases-beyond-ride-through =
         record {
           nothing = λ x h f. (no-watts x h f, no-vars x h f);
           ceased = λ x h f on.

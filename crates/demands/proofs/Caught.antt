@@ -1,0 +1,76 @@
+-- The statements of specs/Caught.antt hold.
+-- Assumes nothing.
+use Rattle.demands.specs.Caught.{ShamsCaught, ShamImagesCaught, ShamReadingsCaught}
+use Rattle.demands.specs.Caught.{ShamRecoveryCaught}
+use Rattle.demands.specs.Caught.{ShamRideThroughEndsCaught}
+use Rattle.demands.specs.Caught.{ShamRefusalsCaught, ShamReportsCaught, ShamPrintingsCaught}
+use Rattle.demands.specs.Caught.{ShamCarryOversCaught}
+use Rattle.demands.specs.Caught.{ShamRulesCaught}
+use Rattle.demands.proofs.ShamRules.{waits, turned, best, last, mandatory}
+use Rattle.demands.proofs.ShamCarryOvers.{added-first, room-first, what-fits, appends-less, drops-any, swaps-caught}
+use Rattle.demands.proofs.Shams.{quick-accepted, waiting-accepted, early, invented, tripped, repeated, kept, refusing, leaving, as-lent}
+use Rattle.demands.proofs.Shams.{no-ramp, no-ninth, no-recovery, no-bits, full-at-once, unheld, withheld}
+use Rattle.demands.proofs.Shams.{stopped, riding-on, low-end, high-end, momentary}
+use Rattle.demands.proofs.ShamStatus.{only-reports, only-trips, only-returns}
+use Rattle.demands.proofs.ShamReadings.{turned-away, let-in}
+use Rattle.demands.proofs.ShamPrintings.{no-more, not-nothing}
+use Rattle.demands.proofs.ShamLines.{no-large, no-unended, no-return}
+use Rattle.demands.proofs.ShamRefusals.{last-code, reading-stored, sample-first, written-short, good-sheet, from-zero, rest-handed}
+
+pub shamsCaught : ShamsCaught
+shamsCaught =
+    record {
+      accepted = quick-accepted;
+      early = early;
+      invented = invented;
+      tripped = tripped;
+      repeated = repeated;
+      kept = kept;
+      refusing = refusing;
+      leaving = leaving;
+    }
+
+pub shamReportsCaught : ShamReportsCaught
+shamReportsCaught = record { bits = only-reports; trips = only-trips; returns = only-returns }
+
+pub shamRefusalsCaught : ShamRefusalsCaught
+shamRefusalsCaught =
+    record {
+      sample = last-code;
+      changed = reading-stored;
+      order = sample-first;
+      written = written-short;
+      sheet = good-sheet;
+      line = from-zero;
+      part = rest-handed;
+    }
+
+pub shamImagesCaught : ShamImagesCaught
+shamImagesCaught = record { accepted = (quick-accepted, waiting-accepted); ramp = no-ramp; ninth = no-ninth; recovery = no-recovery; bits = no-bits }
+
+pub shamRecoveryCaught : ShamRecoveryCaught
+shamRecoveryCaught = record { shown = full-at-once; unheld = unheld; withheld = withheld }
+
+pub shamRideThroughEndsCaught : ShamRideThroughEndsCaught
+shamRideThroughEndsCaught = record { riding-on = riding-on; low-end = low-end; high-end = high-end; momentary = momentary; stopped = stopped }
+
+pub shamReadingsCaught : ShamReadingsCaught
+shamReadingsCaught =
+    record { goodSheet = turned-away; unended = let-in; large = no-large; unendedSample = no-unended; carriageReturn = no-return; asLent = as-lent }
+
+pub shamPrintingsCaught : ShamPrintingsCaught
+shamPrintingsCaught = record { goes-on = no-more; nothing = not-nothing }
+
+pub shamCarryOversCaught : ShamCarryOversCaught
+shamCarryOversCaught =
+    record {
+      added-first = added-first;
+      room-first = room-first;
+      written = what-fits;
+      appended = appends-less;
+      dropped = drops-any;
+      swaps = swaps-caught;
+    }
+
+pub shamRulesCaught : ShamRulesCaught
+shamRulesCaught = record { waits = waits; turned = turned; best = best; last = last; mandatory = mandatory }
