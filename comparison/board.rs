@@ -7,7 +7,9 @@
 //! interface that the tests need, and a list of what to test (docs/DECISIONS.md). Request 3 was added by
 //! a hand that had this program, the words of document 01 and of requests 1 to 3 of document 02, and the
 //! interface with its numbers. Request 4 was added by a hand that had this program, the words of
-//! document 01 and of requests 1 to 4 of document 02, and a list of what to test. No code is shared.
+//! document 01 and of requests 1 to 4 of document 02, and a list of what to test. Request 5 was
+//! added by a hand that had this program, the words of document 01 and of requests 1 to 5 of
+//! document 02, and a list of what to test. No code is shared.
 //! Standard library only, one file:
 //!
 //!     rustc -O --edition 2021 board.rs            the program `board`
@@ -173,6 +175,12 @@ const fn row(head: &'static str, pairs: usize, first: (i64, i64), second: (i64, 
     Row { head, pairs, first, second }
 }
 
+/// The lines in sheet order. The ramp's end is that of document 02, request 5; the clearing times
+/// and the wait keep theirs.
+/// Decision: a ramp of seven digits is refused 1 as before. It is not of the form, and that is
+/// checked first; lent as a number it is refused 2.
+/// Decision: only settings are narrowed. A lent record whose ramp count a longer ramp has left is
+/// read by its top, the ramp length, as any other, and its image is saved and carried as it is.
 const ROWS: [Row; 13] = [
     row("(trip (uv1 ", 1, (0, 8800), (2100, 5000)),
     row("(trip (uv2 ", 1, (0, 5000), (200, 2100)),
@@ -184,7 +192,7 @@ const ROWS: [Row; 13] = [
     row("(trip (of2 ", 1, (61800, 66000), (16, 100000)),
     row("(enter (volts ", 1, (8800, 9500), (10500, 10600)),
     row("(enter (hertz ", 1, (59000, 59900), (60100, 61000)),
-    row("(enter (wait ", 1, (0, 60000), (100, 100000)),
+    row("(enter (wait ", 1, (0, 60000), (100, 60000)),
     row("(var (", 4, (7000, 13000), (-10000, 10000)),
     row("(watt (", 2, (10000, 12000), (0, 10000)),
 ];
@@ -1103,6 +1111,7 @@ fn main() -> ExitCode {
 #[cfg(test)]
 mod tests {
     use super::*;
+    use std::collections::BTreeMap;
 
     const LISTING_SAMPLES: &str = "\
 (at (1000 1000 1000) 60000 1 10000 10000)
@@ -1633,7 +1642,7 @@ mod tests {
         ("trip (of2", 61800, 66000, 16, 100000),
         ("enter (volts", 8800, 9500, 10500, 10600),
         ("enter (hertz", 59000, 59900, 60100, 61000),
-        ("enter (wait", 0, 60000, 100, 100000),
+        ("enter (wait", 0, 60000, 100, 60000),
     ];
 
     #[test]
@@ -3066,8 +3075,8 @@ mod tests {
         assert_eq!(status, MANDATORY);
         assert_eq!(found, rules(STATUS_BY_FREQUENCY, 0, WATTS_BY_SHARE));
         // And one that rounds to 0.
-        let settings = Settings { ramp: 100000, ..quick };
-        let (report, found) = explained(&mut in_service(8), &settings, &NORMAL);
+        let settings = Settings { ramp: 60000, ..quick };
+        let (report, found) = explained(&mut in_service(4), &settings, &NORMAL);
         assert_eq!((report.share, found.watts), (0, WATTS_BY_SHARE));
     }
 
@@ -3834,6 +3843,694 @@ mod tests {
         assert_eq!(lines, expected);
     }
 
+    // --- the end of the ramp range ---
+
+    /// Ramps as the sheet writes them, with their answers.
+    const RAMPS: [(&str, u8); 28] = [
+        ("0", 2), ("1", 2), ("10", 2), ("98", 2), ("99", 2), ("100", 0), ("101", 0), ("30000", 0),
+        ("59999", 0), ("60000", 0), ("60001", 2), ("60002", 2), ("65535", 2), ("65536", 2),
+        ("65636", 2), ("70000", 2), ("99999", 2), ("100000", 2), ("100001", 2), ("125536", 2),
+        ("600000", 2), ("999999", 2), ("1000000", 1), ("9999999", 1), ("060000", 1),
+        ("0060000", 1), ("-60000", 1), ("", 1),
+    ];
+
+    /// Ramps that are lent and refused.
+    const REFUSED_RAMPS: [u32; 17] = [
+        0, 1, 98, 99, 60001, 60002, 65535, 65536, 65636, 99999, 100000, 100001, 125536, 999999,
+        1000000, 1 << 31, u32::MAX,
+    ];
+
+    #[test]
+    fn ramps_of_the_sheet() {
+        for wait in [0, 1, 30000, 60000] {
+            for (ramp, answer) in RAMPS {
+                let line = format!("(enter (wait {wait} {ramp}))");
+                assert_eq!(line_answer(11, &line), answer, "{}", line);
+                let text = sheet_with(11, &line);
+                if answer == 0 {
+                    let settings =
+                        Settings { wait, ramp: ramp.parse().unwrap(), ..default_settings() };
+                    let rest_begins = text.len();
+                    let expected = SheetResult::Accepted { settings, rest_begins };
+                    assert_eq!(read_sheet(text.as_bytes()), expected);
+                } else {
+                    let begin = text.find(&line).unwrap();
+                    let expected = (answer, 11, line.into_bytes(), begin);
+                    assert_eq!(refusal(text.as_bytes()), expected);
+                }
+            }
+        }
+    }
+
+    #[test]
+    fn ramps_in_the_program() {
+        for (ramp, answer) in RAMPS {
+            let sheet = sheet_with(11, &format!("(enter (wait 0 {ramp}))"));
+            let expected = match answer {
+                0 => "(report entering 000000001 0 40 0 0)\n(refused 8 15)\n".to_string(),
+                _ => format!("(refused {answer} 11)\n"),
+            };
+            let input = sheet + GOOD + "(at)\n";
+            for size in [1, 7, 300, input.len()] {
+                let mut output = Vec::new();
+                run(Trickle(input.as_bytes(), size), &mut output).unwrap();
+                assert_eq!(String::from_utf8(output).unwrap(), expected, "{}", ramp);
+            }
+        }
+    }
+
+    const LONG: (usize, &str) = (11, "(enter (wait 0 60001))");
+    const FLAT: (usize, &str) = (12, "(var (7000 0) (7000 0) (7000 0) (7000 0))");
+
+    /// Lines put in place of their own, and the refusal with its line.
+    const BESIDE: [(&[(usize, &str)], u8, usize); 21] = [
+        // An earlier line.
+        (&[LONG, (1, "(trip (uv1 08 2100))")], 1, 1),
+        (&[LONG, (4, "(trip (ov2 12001 16))")], 2, 4),
+        (&[LONG, (5, "(trip (uf1 58500 100001))")], 2, 5),
+        (&[LONG, (10, "(enter (hertz 58999 60100))")], 2, 10),
+        (&[LONG, (10, "")], 1, 10),
+        // A later line.
+        (&[LONG, FLAT], 2, 11),
+        (&[(11, "(enter (wait 0 60000))"), FLAT], 3, 12),
+        (&[LONG, (12, "")], 2, 11),
+        (&[LONG, (13, "(watt (10600 10000))")], 2, 11),
+        (&[LONG, (13, "(watt (10600 10001) (11000 0))")], 2, 11),
+        (&[LONG, (5, "(trip (uf1 58500 100000))"), FLAT], 2, 11),
+        // The wait beside it.
+        (&[(11, "(enter (wait 60001 60001))")], 2, 11),
+        (&[(11, "(enter (wait 60001 60000))")], 2, 11),
+        (&[(11, "(enter (wait 60000 60001))"), FLAT], 2, 11),
+        // The form of the same line.
+        (&[(11, "(enter (wait 060000 60001))")], 1, 11),
+        (&[(11, "(enter (wait 1000000 60001))")], 1, 11),
+        (&[(11, "(enter (wait 0 60001)")], 1, 11),
+        (&[(11, "(enter (wait 0 60001)) ")], 1, 11),
+        (&[(11, "(enter (wait 0  60001))")], 1, 11),
+        (&[(11, "(enter (wait 0 60001 1))")], 1, 11),
+        (&[(11, "(enter (Wait 60001 60001))")], 1, 11),
+    ];
+
+    #[test]
+    fn the_first_refusal_beside_a_long_ramp() {
+        for (changes, number, line_number) in BESIDE {
+            let mut lines: Vec<&str> = DEFAULT_SHEET.lines().collect();
+            for (place, line) in changes {
+                lines[place - 1] = line;
+            }
+            let text: String = lines.iter().map(|line| format!("{line}\n")).collect();
+            let found = refusal(text.as_bytes());
+            assert_eq!((found.0, found.1), (number, line_number), "{:?}", changes);
+            assert_eq!(found.2, lines[line_number - 1].as_bytes());
+            assert_eq!(program(text + GOOD), format!("(refused {number} {line_number})\n"));
+        }
+    }
+
+    #[test]
+    fn every_cut_of_a_sheet_with_a_long_ramp() {
+        let text = sheet_with(11, "(enter (wait 0 60001))");
+        for cut in 0..=text.len() {
+            let ended = text[..cut].matches('\n').count();
+            let expected = if ended < 11 { (1, ended + 1) } else { (2, 11) };
+            let found = refusal(&text.as_bytes()[..cut]);
+            assert_eq!((found.0, found.1), expected, "cut at {}", cut);
+            let answer = format!("(refused {} {})\n", expected.0, expected.1);
+            assert_eq!(program(&text[..cut]), answer);
+        }
+    }
+
+    #[test]
+    fn every_lent_ramp() {
+        let good = default_settings();
+        for ramp in 0..=1_000_000 {
+            let lent = Settings { ramp, ..good };
+            let expected = if (100..60001).contains(&ramp) { Ok(()) } else { Err(2) };
+            assert_eq!(check_settings(&lent), expected, "{}", ramp);
+        }
+    }
+
+    /// The record's image in a buffer of 50 bytes.
+    fn imaged_bytes(board: &Board) -> [u8; 50] {
+        let mut buffer = [0xAA; 50];
+        save(board, &mut buffer).unwrap();
+        assert_eq!(buffer[46..], [0xAA; 4]);
+        buffer
+    }
+
+    #[test]
+    fn refused_lent_ramps_change_nothing() {
+        let wild = Board {
+            status: 200, counters: [u32::MAX; 9], ramp: u32::MAX, watts: u16::MAX, vars: i16::MIN,
+            recovery: u8::MAX,
+        };
+        let records = [fresh(), wild, Board { recovery: 7, ..in_service(50) }, in_service(60000)];
+        let samples: [&[u32]; 7] =
+            [&NORMAL, &NO_PERMISSION, &TOO_HIGH, &[], &[4096; 7], &[0; 7], &[1000; 8]];
+        for ramp in REFUSED_RAMPS {
+            let lent = Settings { ramp, ..quick_settings() };
+            assert_eq!(check_settings(&lent), Err(2), "{}", ramp);
+            for before in records {
+                let image = imaged_bytes(&before);
+                for sample in samples {
+                    let mut board = before;
+                    assert_eq!(step(&mut board, &lent, sample), Err(2), "{}", ramp);
+                    assert_eq!(step_explained(&mut board, &lent, sample), Err(2));
+                    assert_eq!((board, imaged_bytes(&board)), (before, image));
+                }
+            }
+        }
+        for ramp in [100, 101, 59999, 60000] {
+            let lent = Settings { ramp, ..quick_settings() };
+            for before in records {
+                let mut board = before;
+                assert_eq!(step(&mut board, &lent, &[]), Err(8));
+                assert_eq!(step_explained(&mut board, &lent, &[4096; 7]), Err(4));
+                assert_eq!(board, before);
+                explained(&mut board, &lent, &NORMAL);
+            }
+        }
+    }
+
+    #[test]
+    fn lent_ramps_in_sheet_order() {
+        let mut flat = quick_settings();
+        flat.var[1].voltage = flat.var[0].voltage;
+        for (ramp, number) in [(99, 2), (100, 3), (60000, 3), (60001, 2), (100000, 2)] {
+            let mut lent = Settings { ramp, ..flat };
+            assert_eq!(step(&mut fresh(), &lent, &[4096; 7]), Err(number), "{}", ramp);
+            assert_eq!(step_explained(&mut fresh(), &lent, &[]), Err(number));
+            lent.watt[0].voltage = 0;
+            assert_eq!(step(&mut fresh(), &lent, &NORMAL), Err(number));
+            lent.wait = 60001;
+            assert_eq!(step(&mut fresh(), &lent, &NORMAL), Err(2));
+        }
+    }
+
+    #[test]
+    fn a_refused_lent_ramp_is_no_step() {
+        let settings = Settings { ramp: 60000, wait: 3, ..quick_settings() };
+        let (mut board, mut other) = (fresh(), fresh());
+        for (i, choice) in made(5, 3000).iter().enumerate() {
+            let sample = TRIED.get(usize::from(*choice)).copied().unwrap_or(NORMAL);
+            let ramp = REFUSED_RAMPS[i % REFUSED_RAMPS.len()];
+            assert_eq!(step(&mut other, &Settings { ramp, ..settings }, &sample), Err(2));
+            assert_eq!(step(&mut other, &settings, &sample), step(&mut board, &settings, &sample));
+            assert_eq!(other, board);
+        }
+        assert!(board.ramp > 0);
+    }
+
+    #[test]
+    fn clearing_times_and_the_wait_keep_their_ends() {
+        let limits = [(5, "uf1", 58500), (6, "uf2", 56500), (7, "of1", 61200), (8, "of2", 62000)];
+        let times = [
+            (59999, 0), (60000, 0), (60001, 0), (65536, 0), (99999, 0), (100000, 0), (100001, 2),
+            (999999, 2), (1000000, 1),
+        ];
+        for (number, name, limit) in limits {
+            for (time, answer) in times {
+                let line = format!("(trip ({name} {limit} {time}))");
+                assert_eq!(line_answer(number, &line), answer, "{}", line);
+                let mut lent = quick_settings();
+                lent.trips[number - 1].time = time;
+                let expected = if answer == 0 { 8 } else { 2 };
+                assert_eq!(step(&mut fresh(), &lent, &[]), Err(expected), "{}", line);
+            }
+        }
+        let waits = [(0, 0), (1, 0), (59999, 0), (60000, 0), (60001, 2), (100000, 2), (1000000, 1)];
+        for (wait, answer) in waits {
+            for ramp in [100, 60000] {
+                assert_eq!(line_answer(11, &format!("(enter (wait {wait} {ramp}))")), answer);
+                let lent = Settings { wait, ramp, ..quick_settings() };
+                let expected = if answer == 0 { 8 } else { 2 };
+                assert_eq!(step(&mut fresh(), &lent, &[]), Err(expected), "{}", wait);
+            }
+        }
+    }
+
+    #[test]
+    fn clearing_times_of_100000_run_out() {
+        let mut settings = Settings { ramp: 60000, ..quick_settings() };
+        for trip in &mut settings.trips[4..] {
+            trip.time = 100000;
+        }
+        for (frequency, [slow, fast]) in [(50000, [4, 5]), (70000, [6, 7])] {
+            let sample = sample_of([1000; 3], frequency, 1);
+            let mut board = in_service(30000);
+            for k in 1..100000 {
+                let report = step(&mut board, &settings, &sample).unwrap();
+                assert_eq!((report.status, report.bits, report.share), (CEASE, [false; 9], 5000));
+                assert_eq!((board.counters[slow], board.counters[fast]), (k, k));
+            }
+            let (report, found) = explained(&mut board, &settings, &sample);
+            assert_eq!((report.status, report.bits[slow]), (TRIPPED, true));
+            assert_eq!((report.bits[fast], board.ramp), (true, 0));
+            assert_eq!(found, rules(STATUS_BY_LIMIT, slow as u8 + 1, WATTS_BY_STATUS));
+        }
+    }
+
+    #[test]
+    fn the_longest_wait_and_the_longest_ramp() {
+        let settings = Settings { wait: 60000, ramp: 60000, ..default_settings() };
+        let mut board = fresh();
+        for k in 1..60000 {
+            let report = step(&mut board, &settings, &NORMAL).unwrap();
+            assert_eq!((report.status, board.counters[8], board.ramp), (TRIPPED, k, 0));
+        }
+        // Six steps move the share by one.
+        for k in 0..60010 {
+            let (report, found) = imaged(&mut board, &settings, &NORMAL);
+            let count = k.min(60000);
+            assert_eq!((board.ramp, u32::from(report.share)), (count, count / 6));
+            assert_eq!((report.watts, report.recovery), (report.share, 40));
+            assert_eq!(report.status, if k < 60000 { ENTERING } else { CONTINUOUS });
+            let by = if k < 60000 { WATTS_BY_SHARE } else { WATTS_BY_AVAILABLE };
+            let rule = if k == 0 { STATUS_BY_RETURN } else { STATUS_BY_LOWEST };
+            assert_eq!(found, rules(rule, 0, by));
+        }
+        let full = format!("{:08x}{}", 60000, "0000ea602710000028");
+        assert_eq!(hex(&imaged_bytes(&board)[33..46]), full);
+    }
+
+    #[test]
+    fn first_and_last_steps_of_long_ramps() {
+        let rows: [(u32, &[(u32, u16)]); 4] = [
+            (60000, &[(0, 0), (1, 0), (5, 0), (6, 1), (7, 1), (11, 1), (12, 2), (29999, 4999),
+                (30000, 5000), (59993, 9998), (59994, 9999), (59999, 9999), (60000, 10000)]),
+            (59999, &[(5, 0), (6, 1), (29999, 4999), (30000, 5000), (59993, 9998),
+                (59994, 9999), (59998, 9999), (59999, 10000)]),
+            (50001, &[(5, 0), (6, 1), (10, 1), (11, 2), (49995, 9998), (49996, 9999),
+                (50000, 9999), (50001, 10000)]),
+            (100, &[(0, 0), (1, 100), (2, 200), (99, 9900), (100, 10000)]),
+        ];
+        for (ramp, shares) in rows {
+            let settings = Settings { ramp, ..quick_settings() };
+            for &(count, share) in shares {
+                let status = if count < ramp { ENTERING } else { CONTINUOUS };
+                let grown = count.checked_sub(1).map_or(fresh(), in_service);
+                let report = step(&mut grown.clone(), &settings, &NORMAL).unwrap();
+                assert_eq!((report.share, report.status), (share, status), "{}", count);
+                // Held in another band, where a full ramp does not show in the status.
+                for sample in [LOW_HERTZ, LOW_DIP, TOO_HIGH] {
+                    let mut board = in_service(count);
+                    let report = step(&mut board, &settings, &sample).unwrap();
+                    assert_eq!((report.share, board.ramp), (share, count));
+                    assert!(report.status >= MANDATORY);
+                }
+            }
+        }
+    }
+
+    #[test]
+    fn the_longest_ramp_in_the_program() {
+        let sheet = sheet_with(11, "(enter (wait 0 60000))");
+        let hold = "(at (1000 1000 1000) 58799 1 10000 10000)\n";
+        let samples = GOOD.repeat(60000) + hold + &GOOD.repeat(3) + hold;
+        let answers = program(sheet + &samples);
+        let lines: Vec<&str> = answers.lines().collect();
+        assert_eq!(lines.len(), 60005);
+        for k in 0..60000 {
+            let share = k / 6;
+            let expected = format!("(report entering 000000001 {share} 40 {share} 0)");
+            assert_eq!(lines[k], expected, "sample {}", k);
+        }
+        let full = "(report continuous 000000001 10000 40 10000 0)";
+        let expected = [
+            "(report mandatory 000000000 9999 40 9999 0)", full, full, full,
+            "(report mandatory 000000000 10000 40 10000 0)",
+        ];
+        assert_eq!(lines[60000..], expected);
+    }
+
+    #[test]
+    fn counts_that_a_longer_ramp_has_left() {
+        let settings = Settings { ramp: 60000, ..quick_settings() };
+        for status in ENTERING..=CEASE {
+            for ramp in [59999, 60000, 60001, 65536, 99999, 100000, u32::MAX] {
+                let lent = Board { status, ramp, ..fresh() };
+                let mut board = lent;
+                let (report, _) = imaged(&mut board, &settings, &NORMAL);
+                let expected = (CONTINUOUS, 60000, 10000);
+                assert_eq!((report.status, board.ramp, report.share), expected);
+                let mut board = lent;
+                let (report, _) = imaged(&mut board, &settings, &LOW_HERTZ);
+                let share = if ramp < 60000 { 9999 } else { 10000 };
+                let expected = (MANDATORY, ramp.min(60000), share);
+                assert_eq!((report.status, board.ramp, report.share), expected);
+                // The image is not narrowed, nor is carrying.
+                assert_eq!(imaged_bytes(&lent)[37..41], ramp.to_be_bytes());
+                assert_eq!(saved_and_carried(&lent), 0);
+            }
+        }
+    }
+
+    // --- pairs of histories that differ in the ramp count ---
+    //
+    // Decision: both histories have the same sheet, and a run of no samples is a run. The pair that
+    // needs all five may choose its sheet; ramps of 50000 steps or fewer have none.
+
+    /// Harmless, without power; mandatory with none and with little.
+    const IDLE: [u32; 7] = [1000, 1000, 1000, 60000, 1, 0, 10000];
+    const LOW_IDLE: [u32; 7] = [1000, 1000, 1000, 58799, 1, 10000, 0];
+    const LOW_FIVE: [u32; 7] = [1000, 1000, 1000, 58799, 1, 5, 10000];
+
+    /// Samples of the runs that are tried. The ramp grows in the first four.
+    const TRIED: [[u32; 7]; 12] = [
+        NORMAL, IDLE, [841, 841, 841, 60000, 1, 10000, 10000],
+        [1180, 1180, 1180, 61200, 1, 10000, 10000], LOW_HERTZ,
+        [774, 1000, 1000, 60000, 1, 10000, 10000], LOW_DIP, HIGH_SWELL, TOO_HIGH, FAR_BELOW,
+        FAR_ABOVE, NO_PERMISSION,
+    ];
+
+    /// Ends of histories: none, then one for each band with output and without, limits about to
+    /// run out, the way back, and two trips.
+    const ENDS: [&[[u32; 7]]; 13] = [
+        &[], &[IDLE], &[LOW_IDLE], &[LOW_FIVE], &[LOW_DIP], &[HIGH_SWELL], &[TOO_HIGH; 14],
+        &[FAR_BELOW], &[FAR_ABOVE; 15], &[LOW_DIP, LOW_HERTZ], &[TOO_HIGH, IDLE],
+        &[TOO_HIGH; 16], &[NO_PERMISSION],
+    ];
+
+    /// A board after a history: its record, and its report now.
+    type After = (Board, Report);
+
+    /// That board some samples later.
+    fn later(before: After, settings: &Settings, samples: &[[u32; 7]]) -> After {
+        let (mut board, mut report) = before;
+        for sample in samples {
+            report = step(&mut board, settings, sample).unwrap();
+        }
+        (board, report)
+    }
+
+    /// Boards with these rising ramp counts, all on one history of normal samples.
+    fn climbed(settings: &Settings, counts: &[u32]) -> Vec<After> {
+        let wait = settings.wait.max(1) as usize;
+        let mut now = later((fresh(), fresh_report()), settings, &vec![NORMAL; wait]);
+        assert_eq!((now.0.status, now.0.ramp), (ENTERING, 0));
+        let mut at = 0;
+        let mut climb = |&count: &u32| {
+            for _ in at..count {
+                now = later(now, settings, &[NORMAL]);
+            }
+            at = count;
+            assert_eq!(now.0.ramp, count);
+            now
+        };
+        counts.iter().map(&mut climb).collect()
+    }
+
+    /// Whether two images differ, and only in the four bytes of the ramp count.
+    fn differ_in_ramp(a: &Board, b: &Board) -> bool {
+        let (a, b) = (imaged_bytes(a), imaged_bytes(b));
+        a[..37] == b[..37] && a[37..41] != b[37..41] && a[41..] == b[41..]
+    }
+
+    /// The fewest normal samples that make the reports of two boards differ, if 20 do.
+    fn parting(settings: &Settings, mut pair: [After; 2]) -> Option<u32> {
+        for run in 0..=20 {
+            if pair[0].1 != pair[1].1 {
+                return Some(run);
+            }
+            pair = pair.map(|one| later(one, settings, &[NORMAL]));
+        }
+        None
+    }
+
+    /// The same from the shares of two ramp counts alone, whatever the ramp length.
+    fn parting_of_shares(ramp: u32, a: u32, b: u32) -> u32 {
+        let share = |count: u32| 10000 * u64::from(count.min(ramp)) / u64::from(ramp);
+        (0..).find(|run| share(a + run) != share(b + run)).unwrap()
+    }
+
+    /// Sheets with ramps of every size: a quick one, one with other limits, one with no watts,
+    /// so that entering boards differ in the ramp count alone.
+    fn sheets() -> Vec<Settings> {
+        let ramps = [
+            100, 101, 103, 137, 999, 1000, 4999, 5001, 7777, 9999, 10000, 10001, 12345, 19999,
+            20000, 20001, 33333, 40000, 40001, 49999, 50000, 50001, 54321, 59999, 60000,
+        ];
+        let mut sheets = Vec::new();
+        for ramp in ramps {
+            let quick = Settings { ramp, ..quick_settings() };
+            let wide = Settings { ramp, wait: 7, ..wide_settings() };
+            let no_watt = quick.watt.map(|point| Point { power: 0, ..point });
+            sheets.extend([quick, wide, Settings { watt: no_watt, ..quick }]);
+        }
+        sheets
+    }
+
+    /// Ramp counts at the start, at the end and around three places between.
+    fn some_counts(ramp: u32) -> Vec<u32> {
+        let places = [6, ramp / 3, ramp / 2, 4 * (ramp / 5), ramp - 6];
+        let mut counts: Vec<u32> = places.iter().flat_map(|&at| at - 6..=at + 6).collect();
+        counts.sort();
+        counts.dedup();
+        counts
+    }
+
+    #[test]
+    fn pairs_come_apart_within_5() {
+        let mut pairs = [[0; 6]; 6]; // by status and run
+        for settings in sheets() {
+            let climbed = climbed(&settings, &some_counts(settings.ramp));
+            for end in ENDS {
+                let boards: Vec<After> =
+                    climbed.iter().map(|&board| later(board, &settings, end)).collect();
+                for (i, &a) in boards.iter().enumerate() {
+                    for &b in &boards[i + 1..] {
+                        if !differ_in_ramp(&a.0, &b.0) {
+                            continue;
+                        }
+                        let run = parting(&settings, [a, b]).unwrap();
+                        assert!(run <= 5, "{} {:?} {:?}", settings.ramp, a.0, b.0);
+                        assert_eq!(run, parting_of_shares(settings.ramp, a.0.ramp, b.0.ramp));
+                        pairs[usize::from(a.0.status)][run as usize] += 1;
+                    }
+                }
+            }
+        }
+        // Boards that are tripped or have a full ramp never differ so.
+        for status in [TRIPPED, CONTINUOUS] {
+            assert_eq!(pairs[usize::from(status)], [0; 6]);
+        }
+        for status in [ENTERING, MANDATORY, MOMENTARY, CEASE] {
+            assert!(pairs[usize::from(status)].iter().all(|&times| times > 100), "{:?}", pairs);
+        }
+    }
+
+    #[test]
+    fn pairs_of_made_histories_come_apart_within_5() {
+        let mut pairs = [0; 6]; // by run
+        for (ramp, wait) in [(100, 0), (101, 2), (9999, 0), (10001, 3), (50001, 1), (60000, 0)] {
+            let settings = Settings { ramp, wait, ..quick_settings() };
+            // By image without its ramp count: boards of which no two have the same.
+            let mut groups: BTreeMap<Vec<u8>, Vec<After>> = BTreeMap::new();
+            for seed in 0..60 {
+                let mut now = (fresh(), fresh_report());
+                for choice in made(seed, 200 + 3 * seed as usize) {
+                    let sample = TRIED.get(usize::from(choice / 4)).copied().unwrap_or(NORMAL);
+                    now = later(now, &settings, &[sample]);
+                    let image = imaged_bytes(&now.0);
+                    let group = groups.entry([&image[..37], &image[41..]].concat()).or_default();
+                    if group.iter().all(|other| other.0.ramp != now.0.ramp) {
+                        group.push(now);
+                    }
+                }
+            }
+            for group in groups.values() {
+                for (i, &a) in group.iter().enumerate() {
+                    for &b in &group[i + 1..] {
+                        assert!(differ_in_ramp(&a.0, &b.0));
+                        let run = parting(&settings, [a, b]).unwrap();
+                        assert!(run <= 5, "{} {:?} {:?}", ramp, a.0, b.0);
+                        pairs[run as usize] += 1;
+                    }
+                }
+            }
+        }
+        assert!(pairs.iter().all(|&times| times > 50), "{:?}", pairs);
+    }
+
+    #[test]
+    fn the_longest_run_that_neighbours_need() {
+        let rows = [
+            (100, 0), (101, 0), (9999, 0), (10000, 0), (10001, 1), (20000, 1), (20001, 2),
+            (40000, 3), (50000, 4), (50001, 5), (59999, 5), (60000, 5),
+        ];
+        for (ramp, longest) in rows {
+            let settings = Settings { ramp, ..quick_settings() };
+            let counts: Vec<u32> = (0..=ramp).collect();
+            let mut boards = climbed(&settings, &counts);
+            for board in &mut boards {
+                *board = later(*board, &settings, &[LOW_DIP]);
+            }
+            let runs = boards.windows(2).map(|pair| {
+                assert!(differ_in_ramp(&pair[0].0, &pair[1].0));
+                parting(&settings, [pair[0], pair[1]]).unwrap()
+            });
+            assert_eq!(runs.max(), Some(longest), "{}", ramp);
+        }
+        // A longer ramp is refused, so only its shares can be tried: 5 would be too few.
+        for (ramp, longest) in [(60000, 5), (60001, 6), (70000, 6), (70001, 7), (100000, 9)] {
+            let runs = (0..ramp).map(|count| parting_of_shares(ramp, count, count + 1));
+            assert_eq!(runs.max(), Some(longest), "{}", ramp);
+        }
+    }
+
+    /// Tries every run of up to `left` samples on a pair that exactly five climbs tell apart,
+    /// `climbs` of them done, and counts the steps by status.
+    fn try_runs(
+        settings: &Settings, pair: [After; 2], left: u32, climbs: u32, steps: &mut [u32; 6],
+    ) {
+        assert_eq!(pair[0].1 != pair[1].1, climbs == 5, "{:?}", pair);
+        if left == 0 {
+            return;
+        }
+        for (i, sample) in TRIED.iter().enumerate() {
+            let next = pair.map(|one| later(one, settings, &[*sample]));
+            steps[usize::from(next[0].1.status)] += 1;
+            try_runs(settings, next, left - 1, climbs + u32::from(i < 4), steps);
+        }
+    }
+
+    /// Pairs of neighbours on long ramps, from the first to the last, that need five samples.
+    fn slow_pairs() -> Vec<(Settings, [After; 2])> {
+        let rows = [
+            (60000, 0, 0), (60000, 0, 6), (60000, 3, 30000), (60000, 1, 59994), (50001, 0, 0),
+            (55555, 2, 0), (59999, 0, 0),
+        ];
+        let mut pairs = Vec::new();
+        for (ramp, wait, count) in rows {
+            let settings = Settings { ramp, wait, ..quick_settings() };
+            let climbed = climbed(&settings, &[count, count + 1]);
+            for end in ENDS {
+                let pair = [0, 1].map(|i| later(climbed[i], &settings, end));
+                // Not where a climb has been done already, nor where both are tripped.
+                if differ_in_ramp(&pair[0].0, &pair[1].0) && pair[0].0.ramp == count {
+                    pairs.push((settings, pair));
+                }
+            }
+        }
+        pairs
+    }
+
+    #[test]
+    fn no_run_of_up_to_4_tells_them_apart() {
+        let pairs = slow_pairs();
+        assert_eq!(pairs.len(), 7 * 9);
+        let mut steps = [0; 6];
+        for &(settings, pair) in &pairs {
+            try_runs(&settings, pair, 4, 0, &mut steps);
+            assert_eq!(parting(&settings, pair), Some(5));
+        }
+        let [tripped, entering, continuous, mandatory, momentary, cease] = steps;
+        assert_eq!(steps.iter().sum::<u32>(), 63 * (12 + 144 + 1728 + 20736));
+        assert_eq!(continuous, 0);
+        assert!([tripped, entering, mandatory, momentary, cease].iter().all(|&n| n > 100_000));
+    }
+
+    #[test]
+    fn only_five_climbs_tell_them_apart() {
+        for (i, &(settings, pair)) in slow_pairs().iter().enumerate() {
+            if i % 10 == 0 {
+                let mut steps = [0; 6];
+                try_runs(&settings, pair, 5, 0, &mut steps);
+                assert_eq!(steps.iter().sum::<u32>(), 12 + 144 + 1728 + 20736 + 248832);
+                // On no pair does the earlier board's ramp become full.
+                assert_eq!(steps[usize::from(CONTINUOUS)], 0);
+            }
+        }
+    }
+
+    #[test]
+    fn made_runs_of_up_to_4_do_not_tell_them_apart() {
+        let pairs = slow_pairs();
+        let mut reached = [0; 6];
+        for seed in 0..40000 {
+            let (settings, mut pair) = pairs[seed as usize % pairs.len()];
+            for numbers in made(seed, 40).chunks(10) {
+                let two = |i: usize| u32::from(numbers[i]) * 256 + u32::from(numbers[i + 1]);
+                // Any codes, or one near nominal for all; any frequency, or a near one.
+                let codes = match numbers[0] % 4 {
+                    0 => [two(1) % 4096, two(3) % 4096, two(5) % 4096],
+                    1 => [700 + two(1) % 800; 3],
+                    _ => [900 + two(1) % 200; 3],
+                };
+                let wide = if numbers[9] % 4 == 0 { 40001 } else { 2500 };
+                let hertz = 60000 - wide / 2 + two(3) % wide;
+                let permission = u32::from(numbers[9] > 15);
+                let [a, b, c] = codes;
+                let sample = [a, b, c, hertz, permission, two(5) % 10001, two(7) % 10001];
+                pair = pair.map(|one| later(one, &settings, &[sample]));
+                assert_eq!(pair[0].1, pair[1].1, "{:?} {:?}", settings.ramp, sample);
+                reached[usize::from(pair[0].1.status)] += 1;
+            }
+        }
+        let [tripped, entering, continuous, mandatory, momentary, cease] = reached;
+        assert_eq!(continuous, 0);
+        assert!([tripped, entering, mandatory, momentary, cease].iter().all(|&n| n > 1000));
+    }
+
+    #[test]
+    fn the_first_pair_in_full() {
+        // One normal sample and two, from a fresh board.
+        let settings = Settings { ramp: 60000, ..quick_settings() };
+        let begin = (fresh(), fresh_report());
+        let (one, two) =
+            (later(begin, &settings, &[NORMAL]), later(begin, &settings, &[NORMAL; 2]));
+        let image = |ramp: &str| format!("01{}00000001{ramp}0000000028", "00000000".repeat(8));
+        assert_eq!(hex(&imaged_bytes(&one.0)[..46]), image("00000000"));
+        assert_eq!(hex(&imaged_bytes(&two.0)[..46]), image("00000001"));
+        assert!(differ_in_ramp(&one.0, &two.0));
+        for run in 0..5 {
+            let samples = vec![NORMAL; run];
+            let reports = [one, two].map(|board| later(board, &settings, &samples).1);
+            assert_eq!(reports[0], reports[1]);
+            assert_eq!(reports[0].share, 0);
+        }
+        let reports = [one, two].map(|board| later(board, &settings, &[NORMAL; 5]).1);
+        assert_eq!(reports.map(|report| (report.share, report.watts)), [(0, 0), (1, 1)]);
+    }
+
+    #[test]
+    fn the_last_pair_in_full() {
+        // A full ramp shows at once, so it is the pair that has six steps to go, and five.
+        let settings = Settings { ramp: 60000, ..quick_settings() };
+        let boards = climbed(&settings, &[59994, 59995, 59999, 60000]);
+        let pair = [boards[0], boards[1]];
+        assert!(differ_in_ramp(&pair[0].0, &pair[1].0));
+        assert_eq!(parting(&settings, pair), Some(5));
+        let reports = pair.map(|board| later(board, &settings, &[NORMAL; 5]).1);
+        let shown = reports.map(|report| (report.status, report.share));
+        assert_eq!(shown, [(ENTERING, 9999), (CONTINUOUS, 10000)]);
+        let full = [2, 3].map(|i| later(boards[i], &settings, &[LOW_DIP]));
+        assert!(differ_in_ramp(&full[0].0, &full[1].0));
+        assert_eq!(parting(&settings, full), Some(0));
+    }
+
+    #[test]
+    fn the_first_pair_in_the_program() {
+        let runs = [
+            (GOOD.repeat(5), true), (GOOD.repeat(4), false),
+            ("(at (841 841 841) 61200 1 10000 10000)\n".repeat(5), true),
+            ("(at (1000 1000 1000) 58799 1 10000 10000)\n".repeat(5), false),
+            ("(at (1000 1000 1000) 58799 1 10000 10000)\n".to_string() + &GOOD.repeat(4), false),
+            ("(at (1441 1441 1441) 60000 1 10000 10000)\n".to_string() + &GOOD.repeat(5), true),
+            ("(at (1000 1000 1000) 60000 0 10000 10000)\n".to_string() + &GOOD.repeat(9), false),
+        ];
+        let sheet = sheet_with(11, "(enter (wait 0 60000))");
+        for (run, apart) in runs {
+            let first = program(format!("{sheet}{GOOD}{run}"));
+            let second = program(format!("{sheet}{GOOD}{GOOD}{run}"));
+            let first: Vec<&str> = first.lines().skip(1).collect();
+            let second: Vec<&str> = second.lines().skip(2).collect();
+            assert_eq!(first.len(), run.lines().count());
+            let last = first.len() - 1;
+            assert_eq!(first[..last], second[..last]);
+            assert_eq!(first[last] != second[last], apart, "{}", run);
+        }
+    }
+
     // --- calls ---
 
     #[test]
@@ -4053,5 +4750,40 @@ mod tests {
             assert_eq!(explains.next(), Some(&expected[..]));
         }
         assert_eq!((steps.next(), explains.next()), (None, None));
+    }
+
+    #[test]
+    fn calls_with_long_ramps() {
+        let record = "record 1 0 0 0 0 0 0 0 0 1 59998 9999 0 40\n";
+        let image = |status: u8, ramp: u32, watts: u16| {
+            let counters = "00000000".repeat(8);
+            format!("{status:02x}{counters}00000001{ramp:08x}{watts:04x}000028")
+        };
+        let normal = "1000 1000 1000 60000 1 10000 10000";
+        let calls = format!("step {normal}\nexplain {normal}\nstep\nexplain\nsave 46\n");
+        let lend = |ramp: u32| {
+            let lent = Settings { ramp, ..quick_settings() };
+            let words: String =
+                lent.pairs().iter().map(|(a, b)| format!(" {} {}", a, b)).collect();
+            format!("settings{words}\n")
+        };
+        let held = image(1, 59998, 9999);
+        let grown = image(1, 59999, 9999);
+        let full = image(2, 60000, 10000);
+        let accepted = format!(
+            "report 1 000000001 9999 40 9999 0 {grown}\n\
+             report 2 000000001 10000 40 10000 0 rules 5 0 2 {full}\n\
+             refused 8 {full}\nrefused 8 {full}\nsaved {full}\n"
+        );
+        let refused = format!("refused 2 {held}\n").repeat(4) + &format!("saved {held}\n");
+        for ramp in REFUSED_RAMPS {
+            let input = format!("{}{record}{calls}", lend(ramp));
+            assert_eq!(answers(&input), format!("ok\nok\n{refused}"), "{}", ramp);
+            // Good settings afterwards go on from the same record.
+            let input = format!("{input}{}{calls}", lend(60000));
+            assert_eq!(answers(&input), format!("ok\nok\n{refused}ok\n{accepted}"));
+        }
+        let input = format!("{}{record}{calls}", lend(60000));
+        assert_eq!(answers(&input), format!("ok\nok\n{accepted}"));
     }
 }

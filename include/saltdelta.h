@@ -122,7 +122,7 @@ typedef struct {
     saltdelta_span volts;    /* enter service: voltage */
     saltdelta_span hertz;    /* enter service: frequency */
     uint32_t wait;           /* return wait; 0 counts as 1 */
-    uint32_t ramp;           /* ramp length */
+    uint32_t ramp;           /* ramp length, 100 to 60000 (spec 3.5) */
     saltdelta_point var[4];
     saltdelta_point watt[2];
 } saltdelta_settings;

@@ -18,11 +18,14 @@ mod draw;
 mod edges;
 #[path = "feed.rs"]
 mod feed;
+#[path = "pairs.rs"]
+mod pairs;
 #[path = "runs.rs"]
 mod runs;
 
 use edges::{Edges, Step};
 use feed::Feed;
+use pairs::Pairs;
 use std::env;
 use std::fs;
 use std::process::{ExitCode, ExitStatus};
@@ -50,12 +53,13 @@ impl Input {
 pub type Sink<'a> = &'a mut dyn FnMut(Input);
 
 /// The kinds of inputs, quick ones first.
-const MAKERS: [fn(Sink); 19] = [
+const MAKERS: [fn(Sink); 22] = [
     runs::sample_numbers,
     runs::bands,
     runs::curves,
     damage::sheet_bytes,
     damage::sheet_numbers,
+    damage::ramp_lengths,
     damage::not_rising,
     damage::sheet_lines,
     damage::sample_bytes,
@@ -68,6 +72,8 @@ const MAKERS: [fn(Sink); 19] = [
     damage::pipe_blocks,
     damage::long_lines,
     runs::far_outside,
+    pairs::told,
+    pairs::together,
     runs::ramps,
     runs::clearing,
 ];
@@ -124,6 +130,25 @@ const RECOVERIES: [(&str, fn(Said, Said) -> bool); 11] = [
     ("limits the watts", |_, now| now.recovery < 40 && now.watts > 0 && now.watts == 250 * now.recovery),
 ];
 
+/// Ramp lengths that are taken, and that are refused with 2 at line 11: each told from the length and what the input was answered first.
+const RAMPS: [(&str, fn(usize, &[u8]) -> bool); 6] = [
+    ("ramp of 99 refused", |ramp, said| ramp == 99 && said == RAMP_REFUSED),
+    ("ramp of 100 taken", |ramp, said| ramp == 100 && said.starts_with(b"(report")),
+    ("ramp of 60000 taken", |ramp, said| ramp == 60000 && said.starts_with(b"(report")),
+    ("ramp of 60001 refused", |ramp, said| ramp == 60001 && said == RAMP_REFUSED),
+    ("ramp of 60002 to 100000 refused", |ramp, said| (60002..=100000).contains(&ramp) && said == RAMP_REFUSED),
+    ("ramp above 100000 refused", |ramp, said| ramp > 100000 && said == RAMP_REFUSED),
+];
+const RAMP_REFUSED: &[u8] = b"(refused 2 11)";
+
+/// The ramp length in an input's line 11, where that has its form and a wait within its row.
+fn ramp_of(input: &[u8]) -> Option<usize> {
+    let line = std::str::from_utf8(input.split(|&byte| byte == b'\n').nth(10)?).ok()?;
+    let (wait, ramp) = line.strip_prefix("(enter (wait ")?.strip_suffix("))")?.split_once(' ')?;
+    let wait: usize = wait.parse().ok()?;
+    ramp.parse().ok().filter(|_| wait <= 60000)
+}
+
 /// A number of a report line.
 fn number(word: &[u8]) -> usize {
     std::str::from_utf8(word).ok().and_then(|digits| digits.parse().ok()).expect("a number")
@@ -144,7 +169,9 @@ struct Reached {
     refusals: [usize; 8],
     bits: [usize; 9],
     recoveries: [usize; RECOVERIES.len()],
+    ramps: [usize; RAMPS.len()],
     edges: Edges,
+    pairs: Pairs,
 }
 
 impl Reached {
@@ -159,6 +186,11 @@ impl Reached {
 
     /// What an input's lines after the sheet were answered, one each; a refused sheet has one answer.
     fn output(&mut self, input: &[u8], output: &[u8]) {
+        if let (Some(ramp), Some(said)) = (ramp_of(input), output.split(|&byte| byte == b'\n').next()) {
+            for (count, (_, shown)) in self.ramps.iter_mut().zip(RAMPS) {
+                *count += usize::from(shown(ramp, said));
+            }
+        }
         let mut before = FRESH;
         let samples = input.split(|&byte| byte == b'\n').skip(13).chain(std::iter::repeat(&b""[..]));
         for (line, sample) in output.split(|&byte| byte == b'\n').filter(|line| !line.is_empty()).zip(samples) {
@@ -197,6 +229,8 @@ impl Reached {
         things.extend((1..=8).map(|number| (format!("refused {number}"), self.refusals[number - 1])));
         things.extend(named(&BITS, &self.bits).into_iter().map(|(name, count)| (format!("bit {name}"), count)));
         things.extend(RECOVERIES.iter().zip(self.recoveries).map(|((name, _), count)| (format!("recovery {name}"), count)));
+        things.extend(RAMPS.iter().zip(self.ramps).map(|((name, _), count)| (name.to_string(), count)));
+        things.extend(self.pairs.things());
         things.extend(self.edges.things());
         // The clearing times of uf1 and of1 are too long to be run out so often; tests/library/ does it on lent records.
         things.extend(self.edges.run_out().into_iter().filter(|(name, _)| !name.starts_with("uf1") && !name.starts_with("of1")));
@@ -225,6 +259,10 @@ impl Comparison {
         self.reached.input(input);
         if got == expected && status.code().is_some() {
             self.reached.output(&input.bytes, &expected);
+            if !self.reached.pairs.see(input, &expected) {
+                self.differences += 1;
+                println!("a pair of ramp counts parts too early or too late: {}, {}", input.kind, input.name);
+            }
             return;
         }
         self.differences += 1;

@@ -115,6 +115,27 @@ pub fn sheet_numbers(sink: Sink) {
     }
 }
 
+/// Ramps at the ends of their row and outside it, under drawn sheets, some with another number or line refused too.
+pub fn ramp_lengths(sink: Sink) {
+    let lengths = [99, 100, 60000, 60001, 60002, 60010, 65535, 65536, 70000, 99999, 100000, 100001, 600000, 999999];
+    for (i, length) in lengths.into_iter().enumerate() {
+        for seed in 0..if i < 4 { 150 } else { 45 } {
+            let mut draws = Draws::new(12_500_000 + 1000 * i as u64 + seed);
+            let wait = draws.pick(&[0, 1, 2, 60000]);
+            let mut sheet = Sheet::lively(&mut draws).with_wait(wait, length);
+            if seed % 8 == 7 {
+                let other = draws.below(PAIRS);
+                sheet.pairs[other].0 = draws.pick(&[0, 60001, 999999]);
+            }
+            let mut lines = sheet.lines();
+            if seed % 16 == 6 {
+                lines[draws.below(13)].push(' ');
+            }
+            sheet_input("ramp lengths", format!("ramp {length}, seed {seed}"), &lines, sink);
+        }
+    }
+}
+
 /// Curves whose voltages do not rise strictly, alone and beside other causes.
 pub fn not_rising(sink: Sink) {
     for seed in 0..220 {

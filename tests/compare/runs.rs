@@ -5,17 +5,17 @@ use crate::edges::FREQUENCIES;
 use crate::{Input, Sink};
 
 /// An input in the making: a sheet, then samples.
-struct Run<'a> {
+pub struct Run<'a> {
     sheet: &'a Sheet,
     text: String,
 }
 
 impl Run<'_> {
-    fn new(sheet: &Sheet) -> Run<'_> {
+    pub fn new(sheet: &Sheet) -> Run<'_> {
         Run { sheet, text: sheet.text() }
     }
 
-    fn sample(&mut self, sample: [u32; 7], times: usize) {
+    pub fn sample(&mut self, sample: [u32; 7], times: usize) {
         let line = sample_line(&sample);
         for _ in 0..times {
             self.text.push_str(&line);
@@ -63,7 +63,7 @@ impl Run<'_> {
         }
     }
 
-    fn done(self, kind: &'static str, name: String, sink: Sink) {
+    pub fn done(self, kind: &'static str, name: String, sink: Sink) {
         sink(Input::new(kind, name, self.text.into_bytes()));
     }
 }
@@ -268,7 +268,7 @@ fn at_the_ends(run: &mut Run, draws: &mut Draws) {
 
 /// Ramps short and long, held in every other band on their way.
 pub fn ramps(sink: Sink) {
-    let lengths = [100, 101, 102, 127, 333, 1000, 7777, 9999, 10000, 10001, 20000, 30000, 65535, 65536, 99999, 100000];
+    let lengths = [100, 101, 102, 127, 333, 1000, 7777, 9999, 10000, 10001, 20000, 30000, 40000, 50001, 59999, 60000];
     for (i, ramp) in lengths.into_iter().enumerate() {
         for way in 0..3 {
             let mut draws = Draws::new(4_000_000 + 10 * i as u64 + way);

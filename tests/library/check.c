@@ -3,7 +3,7 @@
  * is checked here: the sheet of spec 3.3 and the refused lines of spec 11.1, that a replay is what its steps one by one are, that a
  * refused call writes no byte of what is lent to it, bytes of padding among them, that an image carried over and back is what it was, and
  * that the calls reach each way in which the recovery count moves, a rule is named and an image is carried or refused, and the edges of the
- * frequency's regions, and that a rule is what its name in the header says. Every other step is an explained one, on the same record. It prints 'N passed, M failed' for these. */
+ * frequency's regions, that ramps at the ends of their row and outside it are taken or refused, and that a rule is what its name in the header says. Every other step is an explained one, on the same record. It prints 'N passed, M failed' for these. */
 #include <inttypes.h>
 #include <stdio.h>
 #include <string.h>
@@ -531,6 +531,8 @@ static void sheets(void) {
     refused(1, "(trip (uv1 08 2100))", SALTDELTA_FORM);
     refused(3, "", SALTDELTA_FORM);
     refused(4, "(trip (ov2 12001 16))", SALTDELTA_RANGE);
+    refused(11, "(enter (wait 0 60001))", SALTDELTA_RANGE);
+    refused(11, "(enter (wait 0 99))", SALTDELTA_RANGE);
     refused(12, "(var (9200 -0) (9800 0) (10200 0) (10800 -4400))", SALTDELTA_FORM);
     refused(12, "(var (9800 4400) (9200 0) (10200 0) (10800 -4400))", SALTDELTA_RISE);
     refused(13, "(watt (11000 10000) (11000 0))", SALTDELTA_RISE);
@@ -539,6 +541,7 @@ static void sheets(void) {
 /* ---- refused calls, byte for byte */
 
 static const uint32_t steady[7] = {1000, 1010, 990, 60000, 1, 10000, 9000};
+static const uint32_t bad_ramps[3] = {99, 60001, 100000};
 
 static saltdelta_settings settings_of_sheet(void) {
     char text[1024];
@@ -576,6 +579,11 @@ static void steps_refused(void) {
             fill_steady(&lent, pattern, &s);
             lent.settings.trip[i].clearing = 100001;
             step_refused(&lent, 7, SALTDELTA_RANGE, "a clearing time out of range");
+        }
+        for (int i = 0; i < 3; i++) {
+            fill_steady(&lent, pattern, &s);
+            lent.settings.ramp = bad_ramps[i];
+            step_refused(&lent, 7, SALTDELTA_RANGE, "a ramp out of range");
         }
         fill_steady(&lent, pattern, &s);
         lent.settings.var[3].volts = lent.settings.var[2].volts;
@@ -655,6 +663,9 @@ static void replays_refused(void) {
                 replay_refused(&lent, length, SALTDELTA_BUFFER, "a replay into a buffer under 46 bytes");
             lent.settings.trip[length % 8].clearing = 100001;
             replay_refused(&lent, length, SALTDELTA_RANGE, "a replay with a clearing time out of range");
+            fill_replay(&lent, pattern, &s);
+            lent.settings.ramp = bad_ramps[length % 3];
+            replay_refused(&lent, length, SALTDELTA_RANGE, "a replay with a ramp out of range");
             fill_replay(&lent, pattern, &s);
             lent.settings.watt[1].volts = lent.settings.watt[0].volts;
             replay_refused(&lent, length, SALTDELTA_RISE, "a replay with voltages that do not rise");
@@ -879,7 +890,7 @@ static void six_powers(uint32_t *left) {
 /* Lent records in service, in continuous and mandatory operation, under settings in which the six leave these powers. */
 static void watts_steps(void) {
     static const uint32_t grid[5][2] = {{1000, 60000}, {900, 60000}, {1150, 60000}, {700, 60000}, {1000, 58500}};
-    static const uint32_t ramps[3] = {100, 10000, 100000};
+    static const uint32_t ramps[3] = {100, 10000, 60000};
     for (int i = 0; i < 10000; i++) {
         saltdelta_settings s = rule_settings();
         saltdelta_board b = any_record();
@@ -909,6 +920,56 @@ static void watts_steps(void) {
         sample[6] = left[1];
         give_settings(&s);
         two_steps(b, &s, sample);
+    }
+}
+
+enum { RAMP_LENGTHS = 9, RAMP_TIMES = 400 };
+static const uint32_t ramp_lengths[RAMP_LENGTHS] = {0, 99, 100, 101, 59999, 60000, 60001, 65536, 100000};
+static unsigned ramp_answers[RAMP_LENGTHS];
+
+/* The reading of a sheet with this line 11: taken, with its numbers stored, or refused with 2 at line 11, with every byte of the settings left. */
+static int ramp_read(uint32_t wait, uint32_t ramp, int taken) {
+    char line[64], text[1024];
+    saltdelta_settings was, is;
+    saltdelta_sheet found;
+    sprintf(line, "(enter (wait %" PRIu32 " %" PRIu32 "))", wait, ramp);
+    memset(&was, 0x5A, sizeof was);
+    memset(&is, 0x5A, sizeof is);
+    found = saltdelta_read_sheet(&is, (const uint8_t *)text, write_sheet(text, 11, line));
+    if (taken)
+        return found.number == SALTDELTA_ACCEPTED && is.wait == wait && is.ramp == ramp;
+    return found.number == SALTDELTA_RANGE && found.line == 11 && memcmp(&was, &is, sizeof was) == 0;
+}
+
+/* Ramps at the ends of their row and outside it: steps with them, every other an explained one, and sheets. Half of the steps have voltages that do
+ * not rise as well, which a refused ramp comes before. */
+static void ramp_ends(void) {
+    for (int i = 0; i < RAMP_LENGTHS; i++) {
+        const int taken = ramp_lengths[i] >= 100 && ramp_lengths[i] <= 60000;
+        anew();
+        for (int k = 0; k < RAMP_TIMES; k++) {
+            const int falls = k % 4 / 2;
+            saltdelta_settings s = rule_settings();
+            saltdelta_board b = any_record();
+            saltdelta_report report;
+            uint32_t number;
+            s.ramp = ramp_lengths[i];
+            if (falls)
+                s.watt[1].volts = s.watt[0].volts;
+            give_settings(&s);
+            give_record(&b);
+            number = step(&b, &s, steady, 7, &report);
+            ramp_answers[i] += number == (taken ? (falls ? SALTDELTA_RISE : SALTDELTA_ACCEPTED) : SALTDELTA_RANGE)
+                && ramp_read(within(0, 60000), ramp_lengths[i], taken);
+        }
+    }
+}
+
+/* Every one of the answers was right. */
+static void ramps_reached(void) {
+    for (int i = 0; i < RAMP_LENGTHS; i++) {
+        printf("%9u  ramp of %" PRIu32 "\n", ramp_answers[i], ramp_lengths[i]);
+        expect(ramp_answers[i] == RAMP_TIMES, "a ramp at an end of its row, or outside it");
     }
 }
 
@@ -1145,6 +1206,7 @@ int main(int argc, char **argv) {
     recoveries();
     status_steps();
     watts_steps();
+    ramp_ends();
     edge_steps();
     refused_explained();
     for (size_t count = 0; count <= 350; count++)
@@ -1160,6 +1222,7 @@ int main(int argc, char **argv) {
     }
     rules_reached();
     edges_reached();
+    ramps_reached();
     printf("%d passed, %d failed\n", passed, failed);
     return failed != 0;
 }

@@ -11,6 +11,7 @@ mod comparison;
 #[path = "../compare/edges.rs"]
 mod edges;
 mod library;
+mod ramps;
 
 use comparison as other;
 use edges::{Edges, LIMITS, Step};
@@ -83,7 +84,7 @@ const ROWS: [(i64, i64, i64, i64, usize); 13] = [
     (61800, 66000, 16, 100000, 1),
     (8800, 9500, 10500, 10600, 1),
     (59000, 59900, 60100, 61000, 1),
-    (0, 60000, 100, 100000, 1),
+    (0, 60000, 100, 60000, 1),
     (7000, 13000, -10000, 10000, 4),
     (10000, 12000, 0, 10000, 2),
 ];
@@ -1104,7 +1105,7 @@ fn watts_rules(tally: &mut Tally, dice: &mut Dice) {
     for i in 1..=20_000 {
         let [available, limit, share, curve, nameplate, recovery] = six_powers(dice);
         let mut settings = rule_settings(dice);
-        settings.ramp = [100, 10_000, 100_000][dice.below(3) as usize];
+        settings.ramp = [100, 10_000, 60_000][dice.below(3) as usize];
         let vars = (100_000_000 - nameplate * nameplate).isqrt() as i32;
         settings.var = settings.var.map(|p| Point { power: if nameplate % 2 == 0 { vars } else { -vars }, ..p });
         settings.watt[0].power = curve as i32;
@@ -1321,6 +1322,10 @@ fn main() {
     for (name, count) in edges.things().into_iter().chain(edges.run_out()) {
         tally.reached("frequency:", &name, count as u64);
     }
+    println!("ramps at the ends of their row and outside it, 120 times each:");
+    ramps::ends(&mut tally, &mut Dice(60_000));
+    ramps::come_apart(&mut tally, &mut Dice(5));
+    ramps::stay_together(&mut tally, &mut Dice(4));
     let mut seen = [0; 10];
     saves(&mut tally, &mut Dice(45), &mut seen);
     println!("saves: {} written, {} refused with 9", seen[0], seen[9]);

@@ -11,4 +11,5 @@ pub mod Recovery
 pub mod RideThroughEnds
 pub mod TripAndReturn
 pub mod TwoHistories
+pub mod RampPairs
 pub mod Printed

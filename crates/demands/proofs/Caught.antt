@@ -1,11 +1,19 @@
 -- The statements of specs/Caught.antt hold.
 -- Assumes nothing.
+use Rattle.rules.specs.Regions.{ourEquipment}
+use Rattle.rules.specs.History.{historyReport}
+use Rattle.rules.specs.Images.{savedInto}
+use Rattle.laws.proofs.RampPairs.{untold-not-told}
+use Rattle.demands.specs.Demands.{ours}
 use Rattle.demands.specs.Caught.{ShamsCaught, ShamImagesCaught, ShamReadingsCaught}
 use Rattle.demands.specs.Caught.{ShamRecoveryCaught}
 use Rattle.demands.specs.Caught.{ShamRideThroughEndsCaught}
 use Rattle.demands.specs.Caught.{ShamRefusalsCaught, ShamReportsCaught, ShamPrintingsCaught}
 use Rattle.demands.specs.Caught.{ShamCarryOversCaught}
 use Rattle.demands.specs.Caught.{ShamRulesCaught}
+use Rattle.demands.specs.Caught.{ShamRampsCaught}
+use Rattle.demands.proofs.ShamRamps.{longer-not-told, longer-shows, counted-at-once}
+use Rattle.demands.proofs.Demands.{ourRampsTold, ourRampsUntold}
 use Rattle.demands.proofs.ShamRules.{waits, turned, best, last, mandatory}
 use Rattle.demands.proofs.ShamCarryOvers.{added-first, room-first, what-fits, appends-less, drops-any, swaps-caught}
 use Rattle.demands.proofs.Shams.{quick-accepted, waiting-accepted, early, invented, tripped, repeated, kept, refusing, leaving, as-lent}
@@ -47,6 +55,16 @@ shamRefusalsCaught =
 
 pub shamImagesCaught : ShamImagesCaught
 shamImagesCaught = record { accepted = (quick-accepted, waiting-accepted); ramp = no-ramp; ninth = no-ninth; recovery = no-recovery; bits = no-bits }
+
+pub shamRampsCaught : ShamRampsCaught
+shamRampsCaught =
+    record {
+      six = λ u. untold-not-told savedInto (historyReport ourEquipment) ours 5 u ourRampsTold;
+      four = untold-not-told savedInto (historyReport ourEquipment) ours 4 ourRampsUntold;
+      longer = longer-not-told;
+      longer-shows = longer-shows;
+      counted = counted-at-once;
+    }
 
 pub shamRecoveryCaught : ShamRecoveryCaught
 shamRecoveryCaught = record { shown = full-at-once; unheld = unheld; withheld = withheld }

@@ -1,6 +1,6 @@
 -- The statements of specs/Demands.antt hold.
 -- Assumes nothing.
-use mathlib.Core.Path.{_≡_, sym, subst⁻¹, _∙_}
+use mathlib.Core.Path.{_≡_, refl, sym, subst⁻¹, _∙_}
 use mathlib.Core.Bool.{true}
 use native.Mathlib.Omega.{arith}
 use Rattle.rules.specs.Regions.{ourEquipment}
@@ -18,6 +18,7 @@ use Rattle.laws.proofs.Demand2.{demand2, reports-trip, counter-rule}
 use Rattle.laws.proofs.Demand3.{demand3}
 use Rattle.laws.proofs.Recovery.{restores-power}
 use Rattle.laws.proofs.RideThroughEnds.{ceases-beyond-ride-through}
+use Rattle.laws.proofs.RampPairs.{ramps-told-within-five, ramps-untold-within-four}
 use Rattle.laws.proofs.Bits.{bits-unpacked, reports-items, two-histories-reported}
 use Rattle.laws.proofs.LentRecords.{reads-records}
 use Rattle.laws.proofs.Printed.{words-tell}
@@ -43,9 +44,12 @@ use Rattle.demands.specs.Demands.{PowerLaws, OurSessions, SessionsPrinte
 use Rattle.demands.specs.Demands.{AlikeEquipmentStepsAlike, OurPrinted, OnePrinting, SamplesOnLines, StatusWordsTell, BitsUnpacked}
 use Rattle.demands.specs.Demands.{ReportsAreItems, OurTwoHistoriesReported, OurRecovery, AnyRecovery}
 use Rattle.demands.specs.Demands.{OurRideThroughEnds, AnyRideThroughEnds}
+use Rattle.demands.specs.Demands.{OurRampsTold, OurRampsUntold, AnyRampsTold, AnyRampsUntold, ExportedRamps}
 use Rattle.demands.specs.Demands.{OurLentRecords, LentValues, RightReportsTrip}
 use Rattle.claims.specs.TripAndReturn.{Demand2}
 use Rattle.claims.specs.TwoHistories.{Demand3}
+use Rattle.claims.specs.RampPairs.{RampsTold, RampsUntold}
+use Rattle.claims.specs.Calls.{Program}
 use Rattle.replay.proofs.Groups.{by-seven}
 use Rattle.replay.proofs.Demanded.{replays-rightly}
 use Rattle.saltdelta.proofs.Refusals.{exported-refuse}
@@ -70,6 +74,7 @@ use Rattle.demands.proofs.Lent.{lent-read}
 use Rattle.demands.proofs.Printed.{prints-by-history, one-printing, samples-on-lines}
 use Rattle.demands.proofs.Writable.{accepted-writable}
 use Rattle.demands.proofs.Sound.{our-equipment-sound}
+use Rattle.demands.proofs.LongestRamp.{longestRamp, longest-accepted}
 
 pub ourRefusals : OurRefusals
 ourRefusals = refuses-rightly ourEquipment
@@ -182,6 +187,18 @@ ourRecovery st ok = restores-power ourEquipment st our-equipment-sound ok
 pub ourRideThroughEnds : OurRideThroughEnds
 ourRideThroughEnds st ok = ceases-beyond-ride-through ourEquipment st our-equipment-sound ok
 
+pub ourRampsTold : OurRampsTold
+ourRampsTold = ramps-told-within-five ourEquipment our-equipment-sound
+
+pub anyRampsTold : AnyRampsTold
+anyRampsTold = ramps-told-within-five
+
+pub anyRampsUntold : AnyRampsUntold
+anyRampsUntold e sound = ramps-untold-within-four e sound longestRamp longest-accepted (omega arith) refl
+
+pub ourRampsUntold : OurRampsUntold
+ourRampsUntold = anyRampsUntold ourEquipment our-equipment-sound
+
 pub ourCarryOver : OurCarryOver
 ourCarryOver =
     record { refuses = refused-rightly; numbered = numbered; round-trips = round-trips; records = carries-records }
@@ -240,6 +257,12 @@ exportedRefusals = exported-refuse
 pub exportedDemands : ExportedDemands
 exportedDemands before =
     (subst⁻¹ (Demand2 ourEquipment) (board-is before) ourTripAndReturn, subst⁻¹ (Demand3 ourEquipment) (board-is before) ourTwoHistories)
+
+pub exportedRamps : ExportedRamps
+exportedRamps before = (
+  subst⁻¹ (λ (p : Program). RampsTold ourEquipment p 5) (board-is before) ourRampsTold,
+  subst⁻¹ (λ (p : Program). RampsUntold ourEquipment p 4) (board-is before) ourRampsUntold,
+)
 
 pub exportedUnderTexts : ExportedUnderTexts
 exportedUnderTexts old before s zero =

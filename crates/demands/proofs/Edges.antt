@@ -3,7 +3,7 @@
 use mathlib.Core.Path.{refl}
 use Rattle.rules.specs.Tests.{all, within}
 use Rattle.rules.specs.Sensing.{largest, voltage}
-use Rattle.rules.specs.Settings.{rows, inRow, rising}
+use Rattle.rules.specs.Settings.{rows, inRow, rising, checkFrom, linesOf, settingsCheck}
 use Rattle.rules.specs.Counters.{broken}
 use Rattle.rules.specs.Regions.{voltageRegion, frequencyRegion, regionOf}
 use Rattle.rules.specs.Curves.{curveFrom, curve, nameplate}
@@ -14,6 +14,6 @@ use Rattle.rules.specs.Defaults.{defaultSheet, defaultSettings}
 use Rattle.demands.specs.Edges.{edges, EdgesHold}
 
 pub edges-hold : EdgesHold
-unfolding EdgesHold edges all within rows inRow rising leadingDigits afterDigits valueAfter wellFormed takeNumber takeSigned firstLine hasFeed afterLine sheetForms numbersOf settingsOf readFrom readSheet defaultSheet defaultSettings largest voltage broken voltageRegion frequencyRegion regionOf curveFrom curve nameplate
+unfolding EdgesHold edges all within rows inRow rising checkFrom linesOf settingsCheck leadingDigits afterDigits valueAfter wellFormed takeNumber takeSigned firstLine hasFeed afterLine sheetForms numbersOf settingsOf readFrom readSheet defaultSheet defaultSettings largest voltage broken voltageRegion frequencyRegion regionOf curveFrom curve nameplate
 edges-hold =
-    (refl, (refl, (refl, (refl, (refl, (refl, (refl, (refl, (refl, (refl, (refl, (refl, (refl, (refl, (refl, (refl, (refl, (refl, (refl, (refl, (refl, (refl, (refl, (refl, (refl, (refl, (refl, tt)))))))))))))))))))))))))))
+    (refl, (refl, (refl, (refl, (refl, (refl, (refl, (refl, (refl, (refl, (refl, (refl, (refl, (refl, (refl, (refl, (refl, (refl, (refl, (refl, (refl, (refl, (refl, (refl, (refl, (refl, (refl, (refl, (refl, (refl, (refl, tt)))))))))))))))))))))))))))))))

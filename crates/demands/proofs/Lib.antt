@@ -15,5 +15,7 @@ pub mod ShamCarryOvers
 pub mod OneCarryOver
 pub mod Contracts
 pub mod ShamRules
+pub mod LongestRamp
+pub mod ShamRamps
 pub mod Demands
 pub mod Caught

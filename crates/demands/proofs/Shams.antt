@@ -31,6 +31,7 @@ use Rattle.claims.specs.LentRecords.{ReadsRecords}
 use Rattle.claims.specs.Recovery.{RestoresPower}
 use Rattle.claims.specs.RideThroughEnds.{CeasesBeyondRideThrough}
 use Rattle.claims.specs.TwoHistories.{TwoHistoriesBy}
+use Rattle.laws.proofs.RampPairs.{buffer}
 use Rattle.demands.specs.Shams.{exampleSheet, tripsEarly, inventsCounters, alwaysTripped, repeatsFirst, keepsRecord, turnsAway, takesAsLent}
 use Rattle.demands.specs.ShamRefusals.{refusesLastCode}
 use Rattle.demands.specs.Shams.{turnsAwayLastCode, savedWithoutRamp, savedWithoutNinth, savedWithoutRecovery, reportWithoutBits}
@@ -115,10 +116,6 @@ as-lent d =
     omega arith
 
 -- ---- sham images
-
--- a buffer that 9 lets pass
-abbrev buffer : List ℕ
-buffer = replicate 46 0
 
 -- a sample at nominal with no power available, so that the ramp shows in the share alone
 abbrev idle : ℕ → Call

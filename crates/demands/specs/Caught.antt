@@ -1,5 +1,5 @@
 -- The second page: the demands are not empty. Wrong boards, operations, readings, images, reports and rules do not meet them (Shams.antt, ShamRefusals.antt,
--- ShamCarryOvers.antt, ShamRules.antt). The proof of `X` is `x` in proofs/Caught.antt.
+-- ShamCarryOvers.antt, ShamRules.antt, ShamRamps.antt). The proof of `X` is `x` in proofs/Caught.antt.
 -- Assumes nothing.
 use mathlib.Core.Path.{_≡_}
 use mathlib.Core.Bool.{true}
@@ -10,15 +10,19 @@ use Rattle.rules.specs.Regions.{ourEquipment}
 use Rattle.rules.specs.History.{historyReport}
 use Rattle.rules.specs.Images.{savedInto}
 use Rattle.rules.specs.Sheets.{readSheet}
+use Rattle.rules.specs.Reports.{reportOf}
+use Rattle.rules.specs.declared.Settings.{Settings}
 use Rattle.formats.specs.Sheets.{ReadsSheetsBack, AcceptsSheetsOnly}
 use Rattle.formats.specs.Marks.{ReadsForms}
 use Rattle.formats.specs.Samples.{AnswersSamples}
+use Rattle.claims.specs.Calls.{Call, runOf, acceptedSamples, Under}
 use Rattle.claims.specs.Recovery.{RestoresPower}
 use Rattle.claims.specs.RideThroughEnds.{CeasesBeyondRideThrough}
 use Rattle.claims.specs.FirstCause.{RefusesRightly}
 use Rattle.claims.specs.SheetCauses.{SheetsRefusedRightly}
 use Rattle.claims.specs.TripAndReturn.{Shows, Refuses, Keeps, Trips, Returns, ReturnsContinuous, TripAndReturn}
 use Rattle.claims.specs.TwoHistories.{TwoHistoriesBy}
+use Rattle.claims.specs.RampPairs.{RampsToldBy, RampsUntoldBy, RampsTold, RampsUntold}
 use Rattle.claims.specs.LentRecords.{ReadsRecords}
 use Rattle.claims.specs.Printed.{PrintsByHistory}
 use Rattle.carryover.specs.Carries.{ourForward, ourBack, CarryRefusedRightly, RoundTrips, CarriesRecords}
@@ -29,6 +33,7 @@ use Rattle.demands.specs.Shams.{reportFullAtOnce, reportUnheld, reportWi
 use Rattle.demands.specs.Shams.{takesAsLent, takesUnended, largeNoNumber, stepsUnended, stepsPastReturn}
 use Rattle.demands.specs.Shams.{turnsAwayLastCode, goesOn, saysNothing}
 use Rattle.demands.specs.ShamCarryOvers.{addedFirst, roomFirst, dropsAny, carriesWhatFits, appendsLess, swapsForward, swapsBack}
+use Rattle.demands.specs.ShamRamps.{sixSamples, reportLonger, reportCounted}
 use Rattle.demands.specs.ShamRules.{waitsAtTrip, lastLimit, bestRegion, lastAmongEquals, statusInMandatory}
 use Rattle.demands.specs.ShamRefusals.{refusesLastCode, storesReading, sampleFirst, writesWhatFits, linesFromZero, handsRest}
 use Rattle.demands.specs.Demands.{ours}
@@ -67,6 +72,16 @@ pub record ShamImagesCaught : Type 0 where
   pub ninth : ¬ TwoHistoriesBy savedWithoutNinth (historyReport ourEquipment) ours (exampleSheet 2)
   pub recovery : ¬ TwoHistoriesBy savedWithoutRecovery (historyReport ourEquipment) ours (exampleSheet 0)
   pub bits : ¬ TwoHistoriesBy savedInto reportWithoutBits ours (exampleSheet 0)
+
+-- Five samples are enough for two ramp counts, and four are not: that some pair needs six is refuted by `OurRampsTold`, and that four are always enough by `OurRampsUntold`. A board whose ramps are a step
+-- longer than its sheet's, and whose reports are those of such ramps, has a pair that five samples do not tell. Reports that show the ramp count in the share's place tell every pair at once.
+pub record ShamRampsCaught : Type 0 where
+  pub six : ¬ RampsUntold ourEquipment ours 5
+  pub four : ¬ RampsTold ourEquipment ours 4
+  pub longer : ¬ RampsToldBy savedInto reportLonger sixSamples 5
+  pub longer-shows : (st : Settings) → settingsAccepted st ≡ true → (cs : List Call) → Under st cs
+      → runOf sixSamples cs .report ≡ reportOf (reportLonger st (acceptedSamples cs))
+  pub counted : ¬ RampsUntoldBy savedInto reportCounted ours 0
 
 -- Three shams do not restore power as they should: one shows a full recovery count at once; one counts as it should and gives all at once; one counts as it
 -- should and gives nothing until the count is full.

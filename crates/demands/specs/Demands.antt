@@ -61,6 +61,7 @@ use Rattle.claims.specs.SheetCauses.{SheetsRefusedRightly}
 use Rattle.claims.specs.TripAndReturn.{Shows, Answers, Trips, Returns, TripAndReturn, CounterRule}
 use Rattle.claims.specs.TripAndReturn.{Demand2}
 use Rattle.claims.specs.TwoHistories.{TwoHistoriesBy, Demand3By, Demand3}
+use Rattle.claims.specs.RampPairs.{RampsTold, RampsUntold}
 use Rattle.claims.specs.Bits.{UnpacksBits}
 use Rattle.claims.specs.LentRecords.{ReadsRecords}
 use Rattle.claims.specs.Printed.{sampleOn, printedStatus, PrintsByHistory}
@@ -306,6 +307,15 @@ OurRecovery = (st : Settings) → settingsAccepted st ≡ true → RestoresPower
 abbrev pub OurRideThroughEnds : Type 0
 OurRideThroughEnds = (st : Settings) → settingsAccepted st ≡ true → CeasesBeyondRideThrough ourEquipment (historyReport ourEquipment st)
 
+-- How soon two ramp counts come apart, the longest ramp being 60000 steps: claims/specs/RampPairs.antt. Under every accepted sheet, for every two lists of step calls, refused ones included, whose images, each saved
+-- into a buffer that 9 lets pass, are equal everywhere but in the ramp count's four bytes, and differ there: some common run of at most five accepted samples ends in reports that differ, as the accepted samples alone give them.
+abbrev pub OurRampsTold : Type 0
+OurRampsTold = RampsTold ourEquipment ours 5
+
+-- And fewer do not always do: there are an accepted sheet and two such lists of which no common run of four accepted samples or fewer, whatever they hold, ends in reports that differ.
+abbrev pub OurRampsUntold : Type 0
+OurRampsUntold = RampsUntold ourEquipment ours 4
+
 -- ---- images carried over
 
 -- Images of the old firmware, from before the recovery count, which have 45 bytes, carried forward to this one, and images of this one carried back: carryover/specs/Carries.antt, of
@@ -368,6 +378,12 @@ AnyTripAndReturn = (e : Equipment) → Sound e → Demand2 e (ruledBy e)
 abbrev pub AnyTwoHistories : Type 0
 AnyTwoHistories = (e : Equipment) → Sound e → Demand3 e (ruledBy e)
 
+abbrev pub AnyRampsTold : Type 0
+AnyRampsTold = (e : Equipment) → Sound e → RampsTold e (ruledBy e) 5
+
+abbrev pub AnyRampsUntold : Type 0
+AnyRampsUntold = (e : Equipment) → Sound e → RampsUntold e (ruledBy e) 4
+
 abbrev pub AnyRecovery : Type 0
 AnyRecovery = (e : Equipment) → Sound e → (st : Settings) → settingsAccepted st ≡ true → RestoresPower e st (historyReport e st)
 
@@ -405,7 +421,11 @@ ExportedRefusals = ExportedRefuse
 abbrev pub ExportedDemands : Type 0
 ExportedDemands = (before : Report) → Demand2 ourEquipment (exportedBoard before) × Demand3 ourEquipment (exportedBoard before)
 
--- And that under the settings which `saltdelta_read_sheet` has stored, where it answered 0, whatever stood in the lent settings: they are accepted, as a replay
+-- And how soon ramp counts come apart in their images: within five samples, and not always within four, by the reports that the accepted samples give, which demand 2 ties to those of the calls.
+abbrev pub ExportedRamps : Type 0
+ExportedRamps = (before : Report) → RampsTold ourEquipment (exportedBoard before) 5 × RampsUntold ourEquipment (exportedBoard before) 4
+
+-- Demands 2 and 3 under the settings which `saltdelta_read_sheet` has stored, where it answered 0, whatever stood in the lent settings: they are accepted, as a replay
 -- asks too, and the demands hold under them.
 abbrev pub ExportedUnderTexts : Type 0
 ExportedUnderTexts =

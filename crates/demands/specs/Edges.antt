@@ -6,11 +6,15 @@ use mathlib.Core.List.{List, [], _∷_}
 use Prim.Native.Nat.{ℕ}
 use lib.IntN.{ℤ, pos, negℤ}
 use Rattle.rules.specs.Sensing.{voltage}
+use Rattle.rules.specs.Settings.{settingsCheck}
 use Rattle.rules.specs.Samples.{Slice}
 use Rattle.rules.specs.Counters.{undervoltage, overvoltage, broken}
 use Rattle.rules.specs.Regions.{regionOf, ourEquipment}
 use Rattle.rules.specs.Curves.{curve, nameplate}
 use Rattle.rules.specs.Defaults.{defaultSettings}
+use Rattle.rules.specs.declared.Settings.{Settings}
+use Rattle.rules.specs.declared.Refusal.the-variants.{Range}
+use Rattle.rules.specs.declared.SettingsCheck.{SettingsCheck}
 use Rattle.rules.specs.declared.Region.{Region}
 use Rattle.rules.specs.declared.Region.the-variants.{Continuous, Mandatory, Momentary, Cease}
 
@@ -26,9 +30,17 @@ flat code = sampleOf code 60000
 abbrev pub nominalAt : ℕ → Slice
 nominalAt hertz = sampleOf 1000 hertz
 
+-- the default sheet's settings with another ramp length
+abbrev pub rampOf : ℕ → Settings
+rampOf ramp =
+    let d = defaultSettings in
+    record { trip = d .trip; volts = d .volts; hertz = d .hertz; wait = d .wait; ramp = ramp; var = d .var; watt = d .watt }
+
 -- what a row says
 pub data Edge : Type 0 where
   gives : (code volts : ℕ) → Edge
+  rampTaken : (ramp : ℕ) → Edge
+  rampRefused : (ramp : ℕ) → Edge
   uv1Broken : (code : ℕ) → Bool → Edge
   ov2Broken : (code : ℕ) → Bool → Edge
   isIn : (code : ℕ) → Region → Edge
@@ -40,6 +52,8 @@ pub data Edge : Type 0 where
 -- a row holds, by the definitions
 abbrev pub Holds : Edge → Type 0
 Holds (gives code volts) = voltage code ≡ volts
+Holds (rampTaken ramp) = settingsCheck (rampOf ramp) ≡ SettingsCheck.Accepted
+Holds (rampRefused ramp) = settingsCheck (rampOf ramp) ≡ SettingsCheck.Refused Range 11
 Holds (uv1Broken code b) = broken ourEquipment undervoltage 8800 (flat code) ≡ b
 Holds (ov2Broken code b) = broken ourEquipment overvoltage 12000 (flat code) ≡ b
 Holds (isIn code region) = regionOf ourEquipment (flat code) ≡ region
@@ -62,6 +76,10 @@ edges =
     ∷ gives 1441 12004
     ∷ isIn 1441 Cease
     ∷ gives 4095 20236
+    ∷ rampRefused 99
+    ∷ rampTaken 100
+    ∷ rampTaken 60000
+    ∷ rampRefused 60001
     ∷ isInAt 56999 Cease
     ∷ isInAt 57000 Mandatory
     ∷ isInAt 58799 Mandatory

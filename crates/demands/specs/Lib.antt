@@ -5,5 +5,6 @@ pub mod Shams
 pub mod Lent
 pub mod Contracts
 pub mod ShamRules
+pub mod ShamRamps
 pub mod Demands
 pub mod Caught

@@ -1,6 +1,6 @@
 -- Demand 2 (spec 13.2) holds of the board by the rules, for any sound equipment.
 -- Assumes nothing.
-use mathlib.Core.Path.{_≡_, refl, sym, ap, ap₂, _∙_}
+use mathlib.Core.Path.{_≡_, refl, sym, ap, ap₂, _∙_, subst}
 use mathlib.Core.Bool.{Bool, true, false, cond, _&&_, false≢true, true≢false}
 use mathlib.Core.Logic.{⊎-elim}
 use mathlib.Core.List.{List, [], _∷_, _++_, map}
@@ -41,20 +41,21 @@ use Rattle.laws.proofs.FirstCause.{step-number}
 
 -- ---- one call
 
+-- a sample taken by the rules, under these settings
+abbrev pub taken : Equipment → Settings → Slice → Board → Stepped
+taken e s x b = record { board = next e s x b; answer = Answer.Reported (reportOf (shown e s (next e s x b))) }
+
 module _ (e : Equipment) (b : Board) (s : Settings) (x : Slice) where
   -- an accepted call is a step
-  pub accepted-step : settingsAccepted s ≡ true → sampleAccepted x ≡ true
-      → stepOf e b s x ≡ record { board = next e s x b; answer = Answer.Reported (reportOf (shown e s (next e s x b))) }
+  pub accepted-step : settingsAccepted s ≡ true → sampleAccepted x ≡ true → stepOf e b s x ≡ taken e s x b
   unfolding stepOf
   accepted-step p q = on-settings (settingsCheck s) p
     where
-      on-sample : (m : SampleCheck) → samples.samplePassed m ≡ true
-          → onSample e s x b m ≡ record { board = next e s x b; answer = Answer.Reported (reportOf (shown e s (next e s x b))) }
+      on-sample : (m : SampleCheck) → samples.samplePassed m ≡ true → onSample e s x b m ≡ taken e s x b
       on-sample SampleCheck.Accepted r = refl
       on-sample (SampleCheck.Refused cause) r = absurd (false≢true r)
 
-      on-settings : (k : SettingsCheck) → settingsPassed k ≡ true
-          → onSettings e s x b k ≡ record { board = next e s x b; answer = Answer.Reported (reportOf (shown e s (next e s x b))) }
+      on-settings : (k : SettingsCheck) → settingsPassed k ≡ true → onSettings e s x b k ≡ taken e s x b
       on-settings SettingsCheck.Accepted r = on-sample (sampleCheck x) q
       on-settings (SettingsCheck.Refused cause line) r = absurd (false≢true r)
 
@@ -90,29 +91,30 @@ module _ (e : Equipment) (st : Settings) where
   abbrev after : Run → Stepped → Run
   after r t = record { board = t .board; report = lastReport (r .report) (t .answer) }
 
-  call-is : (h : History) (c : Call) → LendsUnder st c → called (ruledBy e) (at h) c ≡ at (acceptedOne h c)
-  call-is h c l = by (callAccepted c) refl
-    where
-      stepped : c .settings ≡ st → settingsAccepted (c .settings) ≡ true → sampleAccepted (c .slice) ≡ true
-          → after (at h) (stepOf e (recordOf e st h) (c .settings) (c .slice)) ≡ at (c .slice ∷ h)
-      stepped q a d =
-          ap (after (at h)) (accepted-step e (recordOf e st h) (c .settings) (c .slice) a d)
-          ∙ ap (λ (s : Settings). after (at h)
-          (record { board = next e s (c .slice) (recordOf e st h); answer = Answer.Reported (reportOf (shown e s (next e s (c .slice) (recordOf e st h)))) })) q
-          ∙ ap (λ (b : Board). after (at h) (record { board = b; answer = Answer.Reported (reportOf (shown e st b)) })) (next-is e st h (c .slice))
-          ∙ ap (λ (i : Items). record { board = recordOf e st (c .slice ∷ h); report = reportOf i }) (shown-is e st (c .slice ∷ h))
+  -- any program that, under the sheet that is lent, takes accepted samples by the rules of a sheet, that one or another, and refuses all else
+  module _ (p : Program) (lent : Settings)
+      (takes : settingsAccepted lent ≡ true → (b : Board) (x : Slice) → sampleAccepted x ≡ true → p .step b lent x ≡ taken e st x b)
+      (refuses : (b : Board) (c : Call) → callAccepted c ≡ false → (cause : Refusal) × (p .step b (c .settings) (c .slice) ≡ turnedAway b cause)) where
+    call-by : (h : History) (c : Call) → LendsUnder lent c → called p (at h) c ≡ at (acceptedOne h c)
+    call-by h c l = by (callAccepted c) refl
+      where
+        stepped : c .settings ≡ lent → settingsAccepted (c .settings) ≡ true → sampleAccepted (c .slice) ≡ true
+            → after (at h) (p .step (recordOf e st h) (c .settings) (c .slice)) ≡ at (c .slice ∷ h)
+        stepped same a d =
+            ap (λ (s : Settings). after (at h) (p .step (recordOf e st h) s (c .slice))) same
+            ∙ ap (after (at h)) (takes (subst (λ (s : Settings). settingsAccepted s ≡ true) same a) (recordOf e st h) (c .slice) d)
+            ∙ ap (λ (b : Board). after (at h) (record { board = b; answer = Answer.Reported (reportOf (shown e st b)) })) (next-is e st h (c .slice))
+            ∙ ap (λ (i : Items). record { board = recordOf e st (c .slice ∷ h); report = reportOf i }) (shown-is e st (c .slice ∷ h))
 
-      by : (t : Bool) → callAccepted c ≡ t → after (at h) (stepOf e (recordOf e st h) (c .settings) (c .slice)) ≡ at (cond t (c .slice ∷ h) h)
-      by true p =
-          let q = both (settingsAccepted (c .settings)) (sampleAccepted (c .slice)) p in
-          ⊎-elim (λ same. stepped same (q .0) (q .1)) (λ bad. absurd (true≢false (sym (q .0) ∙ bad))) l
-      by false p =
-          let r = refused-step e (recordOf e st h) (c .settings) (c .slice) p in
-          ap (after (at h)) (r .1)
+        by : (t : Bool) → callAccepted c ≡ t → after (at h) (p .step (recordOf e st h) (c .settings) (c .slice)) ≡ at (cond t (c .slice ∷ h) h)
+        by true q =
+            let a = both (settingsAccepted (c .settings)) (sampleAccepted (c .slice)) q in
+            ⊎-elim (λ same. stepped same (a .0) (a .1)) (λ bad. absurd (true≢false (sym (a .0) ∙ bad))) l
+        by false q = ap (after (at h)) (refuses (recordOf e st h) c q .1)
 
-  pub calls-are : (cs : List Call) (h : History) → Under st cs → calledAll (ruledBy e) (at h) cs ≡ at (acceptedAfter h cs)
-  calls-are [] h u = refl
-  calls-are (c ∷ cs) h u = ap (λ (r : Run). calledAll (ruledBy e) r cs) (call-is h c (u .0)) ∙ calls-are cs (acceptedOne h c) (u .1)
+    pub calls-by : (cs : List Call) (h : History) → Under lent cs → calledAll p (at h) cs ≡ at (acceptedAfter h cs)
+    calls-by [] h u = refl
+    calls-by (c ∷ cs) h u = ap (λ (r : Run). calledAll p r cs) (call-by h c (u .0)) ∙ calls-by cs (acceptedOne h c) (u .1)
 
   -- ---- the statuses of a history
 
@@ -174,23 +176,26 @@ module _ (e : Equipment) (st : Settings) where
 
   -- ---- from the beginning
 
-  module _ (ok : settingsAccepted st ≡ true) where
-    -- the fresh board's report: tripped, with all bits and numbers 0, but for a recovery of 40
-    pub fresh-is : reportOf (historyReport e st []) ≡ freshReport
-    unfolding reportOf historyReport historyStatus historyShare historyRecovery sinceCessation historyWatts historyVars climbed
-    fresh-is = ap₂ shows-only (no-bits e st 0 kinds (limits-in st ok)) no-share
-      where
-        shows-only : List Bool → ℕ → Report
-        shows-only bits share = record { status = 0; bits = packedAfter 0 bits; share = share; recovery = recoveryTop; watts = 0; vars = pos 0 }
+  -- the fresh board's report: tripped, with all bits and numbers 0, but for a recovery of 40
+  pub fresh-by : LimitsIn st 0 kinds → reportOf (historyReport e st []) ≡ freshReport
+  unfolding reportOf historyReport historyStatus historyShare historyRecovery sinceCessation historyWatts historyVars climbed
+  fresh-by limits = ap₂ shows-only (no-bits e st 0 kinds limits) no-share
+    where
+      shows-only : List Bool → ℕ → Report
+      shows-only bits share = record { status = 0; bits = packedAfter 0 bits; share = share; recovery = recoveryTop; watts = 0; vars = pos 0 }
 
-        no-share : 10000 * min (st .ramp) 0 / st .ramp ≡ 0
-        no-share = rw (min-zero (st .ramp), zero-div (st .ramp))
+      no-share : 10000 * min (st .ramp) 0 / st .ramp ≡ 0
+      no-share = rw (min-zero (st .ramp), zero-div (st .ramp))
+
+  module _ (ok : settingsAccepted st ≡ true) where
+    pub fresh-is : reportOf (historyReport e st []) ≡ freshReport
+    fresh-is = fresh-by (limits-in st ok)
 
     pub run-is : (cs : List Call) → Under st cs → runOf (ruledBy e) cs ≡ at (acceptedSamples cs)
     unfolding recordOf
     run-is cs u =
         ap (λ (r : Report). calledAll (ruledBy e) (record { board = fresh; report = r }) cs) (sym fresh-is)
-        ∙ calls-are cs [] u
+        ∙ calls-by (ruledBy e) st (λ accepted b x a. accepted-step e b st x accepted a) (λ b c q. refused-step e b (c .settings) (c .slice) q) cs [] u
 
     -- ---- the claims
 

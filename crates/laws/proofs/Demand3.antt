@@ -26,17 +26,17 @@ use Rattle.rules.specs.declared.Settings.{Settings}
 use Rattle.rules.specs.declared.Board.{Board}
 use Rattle.rules.specs.declared.Region.{Region}
 use Rattle.rules.specs.declared.Region.the-variants.{Continuous, Mandatory, Momentary, Cease}
-use Rattle.claims.specs.Calls.{Call, Run, ruledBy, runOf, callAccepted, acceptedOne, acceptedAfter, acceptedSamples, Under}
+use Rattle.claims.specs.Calls.{Call, Run, ruledBy, callAccepted, acceptedOne, acceptedAfter, acceptedSamples, Under}
 use Rattle.claims.specs.Sound.{Sound}
 use Rattle.claims.specs.TripAndReturn.{countOf, recordOf}
-use Rattle.claims.specs.TwoHistories.{AllAccepted, Agree, TwoHistoriesBy, Demand3}
+use Rattle.claims.specs.TwoHistories.{AllAccepted, Agree, imageAfter, TwoHistoriesBy, Demand3}
 use Rattle.power.proofs.CurveLaws.{curve-small}
 use Rattle.power.proofs.PointLists.{powers-small}
 use Rattle.basics.proofs.Bools.{both}
 use Rattle.laws.proofs.Accepted.{sample-right, sheet-rows}
 use Rattle.laws.proofs.Curves.{fits16, var-rises}
 use Rattle.laws.proofs.Least.{least-below}
-use Rattle.laws.proofs.Trace.{counters-are, service-is, ramp-is, recovery-is, recovery-top, status-is, watts-is, vars-is, next-is, shown-is}
+use Rattle.laws.proofs.Trace.{counters-are, nine-counters, service-is, ramp-is, recovery-is, recovery-top, status-is, watts-is, vars-is, next-is, shown-is}
 use Rattle.laws.proofs.Demand2.{run-is}
 use Rattle.laws.proofs.Probes.{AllTellable, all-rules, rules-tellable}
 use Rattle.laws.proofs.Ramps.{ramps-equal}
@@ -57,6 +57,12 @@ samples-accepted (c ∷ cs) h a = samples-accepted cs (acceptedOne h c) (by (cal
 counts-fit : (h : History) (rs : List Rule) → AllTellable rs → AllFit (map (field 4) (map (countOf h) rs))
 counts-fit h [] t = tt
 counts-fit h (r ∷ rs) t = (omega (arith, t .0 .reach), counts-fit h rs (t .1))
+
+-- what a saving puts into a buffer that 9 lets pass
+pub saved-image : (b : Board) → length (b .counters) ≡ 9 → (buffer : List ℕ) → imageLength ≤ length buffer → take imageLength (savedInto b buffer) ≡ image b
+unfolding savedInto
+saved-image b nine buffer room =
+    rw (le-leb imageLength (length buffer) room) (take-at (image b) (drop imageLength buffer) imageLength (image-length b nine))
 
 module _ (e : Equipment) (st : Settings) where
   pub watts-below : (h : History) → AllAccepted h → historyWatts e st h ≤ 10000
@@ -84,6 +90,23 @@ module _ (e : Equipment) (st : Settings) where
       by true Momentary full = lit≤ tt
       by true Cease full = lit≤ tt
 
+  -- ---- a run, on a record
+
+  abbrev pub stepped : Board → List Slice → Board
+  stepped b [] = b
+  stepped b (x ∷ run) = stepped (next e st x b) run
+
+  stepped-is : (run : List Slice) (h : History) → stepped (recordOf e st h) run ≡ recordOf e st (followedBy h run)
+  stepped-is [] h = refl
+  stepped-is (x ∷ run) h = ap (λ (b : Board). stepped b run) (next-is e st h x) ∙ stepped-is run (x ∷ h)
+
+  pub stepped-shown : (run : List Slice) (h : History) → shown e st (stepped (recordOf e st h) run) ≡ historyReport e st (followedBy h run)
+  stepped-shown run h = ap (shown e st) (stepped-is run h) ∙ shown-is e st (followedBy h run)
+
+  -- equal records: equal reports after every run
+  records-agree : (h g : History) → recordOf e st h ≡ recordOf e st g → Agree e st h g
+  records-agree h g p run l a = sym (stepped-shown run h) ∙ ap (λ (b : Board). shown e st (stepped b run)) p ∙ stepped-shown run g
+
 module _ (e : Equipment) (sound : Sound e) (st : Settings) (ok : settingsAccepted st ≡ true) where
   vars-fit : (h : History) → SFits w16 (historyVars e st h)
   unfolding historyVars varsOf
@@ -104,7 +127,7 @@ module _ (e : Equipment) (sound : Sound e) (st : Settings) (ok : settingsAccepte
       let watts : recordOf e st h .watts < 256 ^ 2 = omega (arith, watts-is e st h, watts-below e st h a) in
       let recovery : recordOf e st h .recovery < 256 ^ 1 = omega (arith, recovery-is e st h, recovery-top e st h) in
       record {
-        nine = ap length (counters-are e st h);
+        nine = nine-counters e st h;
         signed = vars;
         rows = (status, each-fit 4 (recordOf e st h .counters) counts _ (ramp, (watts, (complement-below _ vars, (recovery, tt)))));
       }
@@ -121,38 +144,18 @@ module _ (e : Equipment) (sound : Sound e) (st : Settings) (ok : settingsAccepte
       (counters-are e st h
       ∙ all-rules h g ha ga (rules e st) (rules-tellable e sound st ok) (λ run l a. ap (λ (r : Items). r .bits) (f run l a))
       ∙ sym (counters-are e st g))
-      (ramp-is e st h ∙ ramps-equal e sound st ok h g o f ∙ sym (ramp-is e st g))
+      (ramp-is e st h ∙ ramps-equal e sound st ok h g o (λ run l a. f run (omega arith) a) ∙ sym (ramp-is e st g))
       (watts-is e st h ∙ ap (λ (r : Items). r .watts) now ∙ sym (watts-is e st g))
       (vars-is e st h ∙ ap (λ (r : Items). r .vars) now ∙ sym (vars-is e st g))
       (recovery-is e st h ∙ ap (λ (r : Items). r .recovery) now ∙ sym (recovery-is e st g))
 
-  -- ---- equal records: equal reports after every run
-
-  abbrev stepped : Board → List Slice → Board
-  stepped b [] = b
-  stepped b (x ∷ run) = stepped (next e st x b) run
-
-  stepped-is : (run : List Slice) (h : History) → stepped (recordOf e st h) run ≡ recordOf e st (followedBy h run)
-  stepped-is [] h = refl
-  stepped-is (x ∷ run) h = ap (λ (b : Board). stepped b run) (next-is e st h x) ∙ stepped-is run (x ∷ h)
-
-  records-agree : (h g : History) → recordOf e st h ≡ recordOf e st g → Agree e st h g
-  records-agree h g p run l a = sym (at h) ∙ ap (λ (b : Board). shown e st (stepped b run)) p ∙ at g
-    where
-      at : (k : History) → shown e st (stepped (recordOf e st k) run) ≡ historyReport e st (followedBy k run)
-      at k = ap (shown e st) (stepped-is run k) ∙ shown-is e st (followedBy k run)
-
   -- ---- the image saved after a list of calls
 
-  saved-is : (cs : List Call) → Under st cs → (buffer : List ℕ) → imageLength ≤ length buffer
-      → take imageLength (savedInto (runOf (ruledBy e) cs .board) buffer) ≡ image (recordOf e st (acceptedSamples cs))
-  unfolding savedInto
+  pub saved-is : (cs : List Call) → Under st cs → (buffer : List ℕ) → imageLength ≤ length buffer
+      → imageAfter savedInto (ruledBy e) cs buffer ≡ image (recordOf e st (acceptedSamples cs))
   saved-is cs u buffer room =
-      rw (le-leb imageLength (length buffer) room, ap (λ (r : Run). r .board) (run-is e st ok cs u))
-      (take-at (image (recordOf e st (acceptedSamples cs))) (drop imageLength buffer) imageLength long)
-    where
-      long : length (image (recordOf e st (acceptedSamples cs))) ≡ imageLength
-      long = image-length (recordOf e st (acceptedSamples cs)) (ap length (counters-are e st (acceptedSamples cs)))
+      ap (λ (r : Run). take imageLength (savedInto (r .board) buffer)) (run-is e st ok cs u)
+      ∙ saved-image (recordOf e st (acceptedSamples cs)) (nine-counters e st (acceptedSamples cs)) buffer room
 
   two-histories : TwoHistoriesBy savedInto (historyReport e) (ruledBy e) st
   two-histories ps qs up uq a b ra rb =
@@ -163,7 +166,7 @@ module _ (e : Equipment) (sound : Sound e) (st : Settings) (ok : settingsAccepte
       let p-is = saved-is ps up a ra in
       let q-is = saved-is qs uq b rb in
       let told = image-inj _ _ (record-fits hp accepted-p) (record-fits hq accepted-q) in (
-        (λ p. records-agree hp hq (told (sym p-is ∙ p ∙ q-is))),
+        (λ p. records-agree e st hp hq (told (sym p-is ∙ p ∙ q-is))),
         (λ f. p-is ∙ ap image (records-equal hp hq accepted-p accepted-q f) ∙ sym q-is),
       )
 

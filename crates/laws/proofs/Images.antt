@@ -77,6 +77,10 @@ number-inj (suc k) n m xs ys hn hm e =
     let last : n % 256 ≡ m % 256 = cc (t .1) in
     (omega (arith, t .0), cc (t .1))
 
+-- numbers that fit so many bytes are told apart by them
+pub number-told : (k n m : ℕ) → n < 256 ^ k → m < 256 ^ k → numberBytes k n ≡ numberBytes k m → n ≡ m
+number-told k n m hn hm e = number-inj k n m [] [] hn hm (ap (λ (l : List ℕ). l ++ []) e) .0
+
 abbrev widthOf : Field → ℕ
 widthOf f = f .width
 

@@ -11,6 +11,7 @@ pub mod Trip
 pub mod Demand2
 pub mod Saturating
 pub mod Probes
+pub mod Shares
 pub mod Ramps
 pub mod Images
 pub mod Curves
@@ -18,6 +19,9 @@ pub mod Powers
 pub mod OneCurve
 pub mod Least
 pub mod Demand3
+pub mod RampBytes
+pub mod RampAlone
+pub mod RampPairs
 pub mod LentRecords
 pub mod SameRules
 pub mod Alike

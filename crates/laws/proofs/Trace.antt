@@ -9,6 +9,7 @@ use native.Mathlib.Nat.{min-zero}
 use native.Mathlib.Omega.{arith}
 use lib.Dec.{eqb}
 use lib.IntN.{ℤ}
+use lib.ListN.{length}
 use Rattle.rules.specs.Tests.{within}
 use Rattle.rules.specs.Samples.{Slice, Equipment}
 use Rattle.rules.specs.Counters.{counted, full, tripRules, readyRule, rules}
@@ -73,6 +74,9 @@ module _ (e : Equipment) (st : Settings) where
   unfolding recordOf settled fresh streak
   counters-are [] = simp min-zero
   counters-are (x ∷ h) = refl
+
+  pub nine-counters : (h : History) → length (recordOf e st h .counters) ≡ 9
+  nine-counters h = ap length (counters-are h)
 
   pub service-is : (h : History) → inService (recordOf e st h .status) ≡ serving e st h
   unfolding recordOf settled fresh serving within

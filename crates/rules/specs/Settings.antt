@@ -50,7 +50,7 @@ rows =
     ∷ row 61800 66000 16 100000  -- of2
     ∷ row 8800 9500 10500 10600  -- volts
     ∷ row 59000 59900 60100 61000  -- hertz
-    ∷ row 0 60000 100 100000  -- wait
+    ∷ row 0 60000 100 60000  -- wait
     ∷ record { firstLow = pos 7000; firstHigh = pos 13000; secondLow = negℤ (pos 10000); secondHigh = pos 10000 }  -- var
     ∷ row 10000 12000 0 10000  -- watt
     ∷ []

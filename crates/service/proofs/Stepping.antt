@@ -111,12 +111,6 @@ full-last (q ∷ rs) r (n ∷ ns) (suc k) h l = ap (λ (bs : List Bool). full q 
 
 -- ---- counters, trip, return, ramp and recovery
 
-pub ramp-top : (was on continuous : Bool) (length old : ℕ) → ramped was on continuous length (cond was (min length old) 0) ≤ length
-ramp-top was false continuous length old = omega arith
-ramp-top false true continuous length old = omega arith
-ramp-top true true true length old = omega arith
-ramp-top true true false length old = omega arith
-
 -- what `advance` works out before it settles the record and the report
 pub record Found : Type 0 where
   pub counters : List ℕ

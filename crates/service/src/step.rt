@@ -136,7 +136,7 @@ fn status_of(on: bool, region: Region, full: bool) -> u8
 
 // Spec 6.14. No division where the ramp is full.
 fn share(ramp: u32, length: u32) -> u32
-    requires { ⌜ (ramp ≤ length) × (1 ≤ length) × (length ≤ 100000) ⌝ }
+    requires { ⌜ (ramp ≤ length) × (1 ≤ length) × (length ≤ 60000) ⌝ }
     ensures { λ r. ⌜ r ≡ 10000 * ramp / length ⌝ }
     ensures { λ r. ⌜ r ≤ 10000 ⌝ }
 {

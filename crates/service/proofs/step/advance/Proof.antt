@@ -2,9 +2,10 @@
 -- Assumes nothing.
 use mathlib.Core.Path.{_≡_, sym, ap, _∙_}
 use lib.ListN.{length}
+use Rattle.laws.proofs.Shares.{read-top, ramp-top}
 use Rattle.ridethrough.proofs.Ordinary.{ordinary}
 use Rattle.service.specs.Steps.{reported}
-use Rattle.service.proofs.Stepping.{ramp-top, Found, Promised, region-found, bits-found, advance-is}
+use Rattle.service.proofs.Stepping.{Found, Promised, region-found, bits-found, advance-is}
 use borrow.Author.Needs.{needs}
 use Rattle.service.proofs.step.advance.Statement.{statement}
 use Rattle.service.proofs.step.advance.Tie as tie
@@ -48,7 +49,8 @@ settle-requires c κs =
     let was = on .before in
     let start = was .before .before .before .before in
     let a = start .args in
-    let top = ramp-top (was .in-service .result) (on .in-service-after .result) (continues .is-continuous .result) (a .s .ramp) (a .b .ramp) in
+    let read = read-top (was .in-service .result) (a .s .ramp) (a .b .ramp) in
+    let top = ramp-top (was .in-service .result) (on .in-service-after .result) (continues .is-continuous .result) (a .s .ramp) _ read in
     (start .pre, rw (ramp .ramp-after .ensures) top)
 
 nine-counters : (c : tie.Start) → length (c .args .b .counters) ≡ 9
