@@ -5,7 +5,8 @@
 //!
 //! The comparison program, `comparison/board.rs`, is linked in; PROGRAM is started anew for every input. The input of the first difference
 //! is kept in FOLDER with what each wrote. Seeds are fixed: every run makes the same inputs. With KIND, only inputs of that kind.
-//! The last line is 'N passed, M failed': an input on which both agree is a pass, and so is each thing reached often enough.
+//! The last line is 'N passed, M failed': an input on which both agree is a pass, and so is each thing reached often enough; a difference is a
+//! failure, and so is a pair of inputs (pairs.rs) that does not part as it should.
 
 #[allow(dead_code)]
 #[path = "../../comparison/board.rs"]
@@ -141,7 +142,7 @@ const RAMPS: [(&str, fn(usize, &[u8]) -> bool); 6] = [
 ];
 const RAMP_REFUSED: &[u8] = b"(refused 2 11)";
 
-/// The ramp length in an input's line 11, where that has its form and a wait within its row.
+/// The ramp length in an input's line 11, where two numbers can be read there and the wait is within its row.
 fn ramp_of(input: &[u8]) -> Option<usize> {
     let line = std::str::from_utf8(input.split(|&byte| byte == b'\n').nth(10)?).ok()?;
     let (wait, ramp) = line.strip_prefix("(enter (wait ")?.strip_suffix("))")?.split_once(' ')?;
@@ -244,6 +245,7 @@ struct Comparison {
     folder: String,
     reached: Reached,
     differences: usize,
+    wrong_pairs: usize,
     signals: usize,
 }
 
@@ -257,12 +259,9 @@ impl Comparison {
         let file = format!("{}/input", self.folder);
         let (got, status) = feed::run(&self.program, &input.bytes, &input.feed, &file);
         self.reached.input(input);
+        self.see_pair(input, &expected);
         if got == expected && status.code().is_some() {
             self.reached.output(&input.bytes, &expected);
-            if !self.reached.pairs.see(input, &expected) {
-                self.differences += 1;
-                println!("a pair of ramp counts parts too early or too late: {}, {}", input.kind, input.name);
-            }
             return;
         }
         self.differences += 1;
@@ -271,6 +270,16 @@ impl Comparison {
             self.keep(input, &expected, &got, status);
         } else if self.differences < 10 {
             println!("difference: {}, {}", input.kind, input.name);
+        }
+    }
+
+    /// With the second input of a pair: whether the two part as they should, by what the comparison program writes.
+    fn see_pair(&mut self, input: &Input, expected: &[u8]) {
+        if !self.reached.pairs.see(input, expected) {
+            self.wrong_pairs += 1;
+            if self.wrong_pairs < 10 {
+                println!("a pair of ramp counts that parts too early or too late: {}, {}", input.kind, input.name);
+            }
         }
     }
 
@@ -325,7 +334,7 @@ fn main() -> ExitCode {
     feed::watch();
     let begin = Instant::now();
     let mut comparison =
-        Comparison { program: program.clone(), folder: folder.clone(), reached: Reached::default(), differences: 0, signals: 0 };
+        Comparison { program: program.clone(), folder: folder.clone(), reached: Reached::default(), differences: 0, wrong_pairs: 0, signals: 0 };
     for make in MAKERS {
         make(&mut |input| {
             if kinds.is_empty() || kinds.iter().any(|kind| kind == input.kind) {
@@ -335,7 +344,8 @@ fn main() -> ExitCode {
     }
     let (held, short) = comparison.conclude();
     println!("{} s", begin.elapsed().as_secs());
-    let (passed, failed) = (comparison.reached.inputs - comparison.differences + held, comparison.differences + short);
+    let failed = comparison.differences + comparison.wrong_pairs + short;
+    let passed = comparison.reached.inputs - comparison.differences + held;
     println!("{passed} passed, {failed} failed");
     if failed == 0 { ExitCode::SUCCESS } else { ExitCode::FAILURE }
 }

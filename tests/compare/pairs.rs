@@ -26,10 +26,10 @@ fn put(kind: &'static str, name: &str, sheet: &Sheet, counts: [usize; 2], run: &
     }
 }
 
-/// Counts next to each other, or nearly, low on the ramp; long ramps now and then high on it.
+/// Counts next to each other, or nearly, low on the ramp; those of every hundredth pair anywhere on it.
 pub fn told(sink: Sink) {
     for seed in 0..1500 {
-        let mut draws = Draws::new(13_000_000 + seed);
+        let mut draws = Draws::new(13_100_000 + seed);
         let ramp = if draws.once_in(4) { draws.pick(&[100, 10000, 30000, 50001, 59999]) } else { LONGEST };
         let sheet = Sheet::lively(&mut draws).with_wait(draws.below(3) as i64, ramp);
         let low = if seed % 100 == 0 { draws.below(ramp as usize - 1) } else { draws.below(90) };
@@ -102,7 +102,7 @@ impl Pairs {
         parted.is_none()
     }
 
-    /// Each thing to be reached, with its count; a ramp that short is never full.
+    /// Each thing to be reached, with its count. No count of `together` reaches the ramp's end within four samples, so that `continuous` does not occur.
     pub fn things(&self) -> Vec<(String, usize)> {
         let apart = self.apart.into_iter().enumerate().map(|(k, count)| (format!("ramp counts that come apart after {k} samples"), count));
         let together = STATUS_WORDS.into_iter().zip(self.statuses).filter(|(word, _)| *word != "continuous");

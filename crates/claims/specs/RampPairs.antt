@@ -22,7 +22,7 @@ rampBegins = 37
 abbrev pub rampEnds : ℕ
 rampEnds = 41
 
--- spec 13.13: two images that are equal everywhere but in the ramp count's bytes, and differ there
+-- spec 13.13: two images that differ, and in no byte outside the ramp count's four
 pub record RampAlone (a b : List ℕ) : Type 0 where
   pub before : take rampBegins a ≡ take rampBegins b
   pub behind : drop rampEnds a ≡ drop rampEnds b

@@ -308,7 +308,7 @@ abbrev pub OurRideThroughEnds : Type 0
 OurRideThroughEnds = (st : Settings) → settingsAccepted st ≡ true → CeasesBeyondRideThrough ourEquipment (historyReport ourEquipment st)
 
 -- How soon two ramp counts come apart, the longest ramp being 60000 steps: claims/specs/RampPairs.antt. Under every accepted sheet, for every two lists of step calls, refused ones included, whose images, each saved
--- into a buffer that 9 lets pass, are equal everywhere but in the ramp count's four bytes, and differ there: some common run of at most five accepted samples ends in reports that differ, as the accepted samples alone give them.
+-- into a buffer that 9 lets pass, differ, and in no byte outside the ramp count's four: some common run of at most five accepted samples ends in reports that differ, as the accepted samples alone give them.
 abbrev pub OurRampsTold : Type 0
 OurRampsTold = RampsTold ourEquipment ours 5
 
@@ -421,7 +421,7 @@ ExportedRefusals = ExportedRefuse
 abbrev pub ExportedDemands : Type 0
 ExportedDemands = (before : Report) → Demand2 ourEquipment (exportedBoard before) × Demand3 ourEquipment (exportedBoard before)
 
--- And how soon ramp counts come apart in their images: within five samples, and not always within four, by the reports that the accepted samples give, which demand 2 ties to those of the calls.
+-- And how soon two ramp counts in the images of that program come apart: within five samples, and not always within four, by the reports that the accepted samples give, which demand 2 ties to those of the calls.
 abbrev pub ExportedRamps : Type 0
 ExportedRamps = (before : Report) → RampsTold ourEquipment (exportedBoard before) 5 × RampsUntold ourEquipment (exportedBoard before) 4
 

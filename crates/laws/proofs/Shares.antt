@@ -1,5 +1,5 @@
 -- Shares (spec 6.14) of two ramp counts that grow alike: with a ramp of at most 60000 steps the share moves at least once in six, so that counts
--- whose shares agree for five steps more are equal.
+-- whose shares agree for five steps more are equal. And what a step makes of a ramp count, and of two whose shares agree.
 -- Assumes nothing.
 use mathlib.Core.Path.{_≡_, refl, sym, ap, _∙_, subst}
 use mathlib.Core.Bool.{Bool, true, false, cond}

@@ -1,4 +1,5 @@
--- The exported functions, in the words of their contracts, as a board program and as a replay: of these demands 2 and 3 are claimed.
+-- The exported functions, in the words of their contracts, as a board program and as a replay: of these demands 2 and 3 are claimed, and of the first
+-- how soon two ramp counts come apart.
 -- Assumes nothing.
 use mathlib.Core.List.{List, [], _∷_}
 use Prim.Native.Nat.{ℕ, _-_}
