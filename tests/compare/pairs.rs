@@ -72,7 +72,8 @@ pub struct Pairs {
 }
 
 impl Pairs {
-    /// An output; with a pair's second one the two are compared. False where they do not part within five samples, or part within four.
+    /// An output; with a pair's second one the two are compared. False where they do not part within five samples, or part within four, or have not a
+    /// line for each sample of the run.
     pub fn see(&mut self, input: &Input, output: &[u8]) -> bool {
         let run = match input.kind {
             TOLD => 5,
@@ -84,6 +85,9 @@ impl Pairs {
             self.first = Some(lines);
             return true;
         };
+        if first.len() <= run || lines.len() <= run {
+            return false;
+        }
         // the last line before the run, and those of the run
         let (one, other) = (&first[first.len() - run - 1..], &lines[lines.len() - run - 1..]);
         let parted = (0..=run).find(|&k| one[k] != other[k]);

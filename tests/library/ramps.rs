@@ -161,7 +161,7 @@ pub fn come_apart(tally: &mut Tally, dice: &mut Dice) {
         } else {
             // one ramp is full: the status differs besides, and nothing else
             let full = high == length && pair[0].0.status == other::ENTERING && pair[1].0.status == other::CONTINUOUS;
-            let status = bytes[0] == 0 && ramp_alone(&bytes[1..]);
+            let status = bytes.split_first().is_some_and(|(first, rest)| *first == 0 && ramp_alone(rest));
             tally.call(full && status, || format!("ramp {length}, counts {low} and {high}: bytes {bytes:?} differ"));
             not_alone += 1;
         }
