@@ -16,7 +16,8 @@ use std::process::{Command, Stdio};
 use std::thread;
 use std::time::{Duration, Instant};
 
-/// A quiet grid with noise on every reading, and an event of a few steps now and then.
+/// A quiet grid with noise on every reading; now and then some steps of trouble, and more often a stretch outside the deadband, which takes
+/// two or three samples of a hundred.
 fn make(bytes: usize, file: &str) -> io::Result<()> {
     let mut draws = Draws::new(15_000_000);
     let mut output = BufWriter::new(File::create(file)?);
@@ -26,7 +27,11 @@ fn make(bytes: usize, file: &str) -> io::Result<()> {
     let (mut event, mut left) = (0, 0);
     while made < bytes {
         if left == 0 {
-            (event, left) = if draws.once_in(40) { (draws.between(1, 6), draws.between(1, 30)) } else { (0, draws.between(50, 200)) };
+            (event, left) = match draws.below(40) {
+                0 => (draws.between(1, 6), draws.between(1, 30)),
+                1..=3 => (draws.between(7, 8), draws.between(10, 90)),
+                _ => (0, draws.between(50, 200)),
+            };
         }
         left -= 1;
         let line = sample_line(&sample(event, &mut draws));
@@ -38,7 +43,7 @@ fn make(bytes: usize, file: &str) -> io::Result<()> {
 
 fn sample(event: i64, draws: &mut Draws) -> [u32; 7] {
     let mut near = |middle: i64, off: i64| draws.between(middle - off, middle + off) as u32;
-    let mut sample = [near(1000, 60), near(1000, 60), near(1000, 60), near(60000, 90), 1, near(8000, 2000), near(9500, 500)];
+    let mut sample = [near(1000, 60), near(1000, 60), near(1000, 60), near(60000, 30), 1, near(8000, 2000), near(9500, 500)];
     match event {
         1 => sample[0] = near(500, 200),
         2 => sample[1] = near(1320, 100),
@@ -46,6 +51,8 @@ fn sample(event: i64, draws: &mut Draws) -> [u32; 7] {
         4 => sample[3] = near(57300, 800),
         5 => sample[3] = near(62000, 700),
         6 => sample[0] = near(4095, 3),
+        7 => sample[3] = near(60080, 40),
+        8 => sample[3] = near(59920, 40),
         _ => (),
     }
     sample

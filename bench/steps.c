@@ -18,11 +18,12 @@ static const char sheet[] =
 
 static saltdelta_settings settings;
 
-/* Every eighth sample is in mandatory operation. */
+/* Every eighth sample is in mandatory operation, and two of 64 are in a droop event. */
 static void sample(uint32_t *x, unsigned long i) {
     static const uint32_t nominal[7] = {1000, 1010, 990, 60000, 1, 10000, 9000};
     memcpy(x, nominal, sizeof nominal);
     x[0] = i % 8 == 0 ? 700 : (uint32_t)(1000 + i % 7);
+    x[3] = i % 64 > 61 ? 60100 : 60000;
 }
 
 static unsigned plain(unsigned long steps) {

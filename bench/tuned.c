@@ -11,6 +11,8 @@ enum { BLOCK = 1 << 18, LINE_MOST = 73, OUT_FULL = 1 << 18, OUT_LINE = 128 };
 enum { TRIPPED, ENTERING, CONTINUOUS, MANDATORY, MOMENTARY, CEASE };
 enum { FORM = 1, RANGE, RISE, CODE, FREQUENCY, PERMISSION, POWER, SAMPLE };
 enum { RECOVERY_TOP = 40, RECOVERY_STEP = 10000 / RECOVERY_TOP };
+enum { NO_SIDE, HIGH_SIDE, LOW_SIDE };
+enum { LOW_POINT = 59964, HIGH_POINT = 60036 }; /* of the droop */
 
 static const int64_t INPUT_END = 1000000000000;
 
@@ -19,7 +21,10 @@ typedef struct {
     uint32_t limit[8], time[8], volts_low, volts_high, hertz_low, hertz_high, wait, ramp;
     point var[4], watt[2];
 } settings;
-typedef struct { uint32_t counter[9], ramp, share, recovery; int in_service; } board; /* recovery counts in service only */
+typedef struct {
+    uint32_t counter[9], ramp, share, recovery, side, held, watts;
+    int in_service;
+} board; /* when tripped, side and watts are 0, and recovery and held are not looked at */
 typedef struct { const char *head; int pairs, low1, high1, low2, high2; } row;
 
 static const row ROWS[13] = {
@@ -142,7 +147,7 @@ static inline void put_decimal(uint32_t n) {
     to += decimal[n][7];
 }
 
-static inline void report(int status, uint32_t bits, uint32_t share, uint32_t recovery, uint32_t watts, int32_t vars) {
+static inline void report(int status, uint32_t bits, uint32_t share, uint32_t recovery, uint32_t side, uint32_t held, uint32_t watts, int32_t vars) {
     memcpy(to, HEADS[status], 24);
     to += HEAD_LENGTHS[status];
     memcpy(to, nine_bits[bits], 16);
@@ -152,12 +157,23 @@ static inline void report(int status, uint32_t bits, uint32_t share, uint32_t re
     *to++ = ' ';
     put_decimal(recovery);
     *to++ = ' ';
+    *to++ = '0' + side;
+    *to++ = ' ';
+    put_decimal(held);
+    *to++ = ' ';
     put_decimal(watts);
     *to++ = ' ';
     if (vars < 0) *to++ = '-';
     put_decimal(vars < 0 ? -vars : vars);
     *to++ = ')';
     *to++ = '\n';
+}
+
+/* The power in an event, in the place of available power, operator's limit and share. */
+static inline uint32_t droop(const board *b, uint32_t f, uint32_t available) {
+    if (b->side == LOW_SIDE) return least(b->held + (LOW_POINT - f) * 10 / 3, available);
+    uint32_t less = (f - HIGH_POINT) * 10 / 3;
+    return b->held > less ? least(b->held - less, available) : 0;
 }
 
 /* Spec 6 and 7 for a sample of accepted form; the refusal's number, or 0. */
@@ -193,20 +209,29 @@ static inline int step(board *b, const settings *s, const uint32_t *n) {
         b->recovery = RECOVERY_TOP;
     }
     if (!b->in_service) {
-        report(TRIPPED, bits, 0, RECOVERY_TOP, 0, 0);
+        b->side = b->watts = 0;
+        report(TRIPPED, bits, 0, RECOVERY_TOP, NO_SIDE, 0, 0, 0);
         return 0;
     }
+    uint32_t asked = least(least(n[5], n[6]), b->share);
+    if (f - LOW_POINT > HIGH_POINT - LOW_POINT) {
+        uint32_t side = f > HIGH_POINT ? HIGH_SIDE : LOW_SIDE;
+        if (b->side != side) b->side = side, b->held = b->watts;
+        asked = droop(b, f, n[5]);
+    } else {
+        b->side = b->held = 0;
+    }
     if (band >= 2) {
-        b->recovery = 0;
-        report(band + 2, bits, b->share, 0, 0, 0);
+        b->recovery = b->watts = 0;
+        report(band + 2, bits, b->share, 0, b->side, b->held, 0, 0);
         return 0;
     }
     int32_t mean = (v0 + v1 + v2) / 3, vars = var_curve(s, mean);
-    uint32_t watts = least(least(n[5], n[6]), least(b->share, watt_curve(s, mean)));
-    watts = least(watts, rating_beside[vars < 0 ? -vars : vars]);
+    uint32_t watts = least(least(asked, watt_curve(s, mean)), rating_beside[vars < 0 ? -vars : vars]);
     /* A return comes here recovered, and is not counted. */
     if (b->recovery < RECOVERY_TOP) watts = least(watts, RECOVERY_STEP * ++b->recovery);
-    report(band ? MANDATORY : b->ramp < s->ramp ? ENTERING : CONTINUOUS, bits, b->share, b->recovery, watts, vars);
+    b->watts = watts;
+    report(band ? MANDATORY : b->ramp < s->ramp ? ENTERING : CONTINUOUS, bits, b->share, b->recovery, b->side, b->held, watts, vars);
     return 0;
 }
 

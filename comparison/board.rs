@@ -9,7 +9,9 @@
 //! interface with its numbers. Request 4 was added by a hand that had this program, the words of
 //! document 01 and of requests 1 to 4 of document 02, and a list of what to test. Request 5 was
 //! added by a hand that had this program, the words of document 01 and of requests 1 to 5 of
-//! document 02, and a list of what to test. No code is shared.
+//! document 02, and a list of what to test. Request 6 was added by a hand that had this program,
+//! the words of document 01 and of requests 1 to 6 of document 02, the interface with its numbers,
+//! and a list of what to test. No code is shared.
 //! Standard library only, one file:
 //!
 //!     rustc -O --edition 2021 board.rs            the program `board`
@@ -76,6 +78,11 @@ pub struct Board {
     pub vars: i16,
     /// Steps since momentary or cease, 0 to 40; full when tripped (spec 6.15).
     pub recovery: u8,
+    // Told: side and held power, here and in the report right after the recovery.
+    /// The side of the droop event, `NO_SIDE`, `HIGH_SIDE` or `LOW_SIDE`.
+    pub side: u8,
+    /// The held power of the event; 0 where there is none.
+    pub held: u16,
 }
 
 /// What one accepted sample gives.
@@ -87,6 +94,9 @@ pub struct Report {
     pub share: u16,
     /// The recovery count after the step.
     pub recovery: u8,
+    /// Side and held power of the droop event after the step.
+    pub side: u8,
+    pub held: u16,
     pub watts: u16,
     pub vars: i16,
 }
@@ -123,6 +133,11 @@ pub const CEASE: u8 = 5;
 pub const STATUS_WORDS: [&str; 6] =
     ["tripped", "entering", "continuous", "mandatory", "momentary", "cease"];
 
+/// The sides of a droop event.
+pub const NO_SIDE: u8 = 0;
+pub const HIGH_SIDE: u8 = 1;
+pub const LOW_SIDE: u8 = 2;
+
 pub const SHEET_LINE: u8 = 1;
 pub const OUTSIDE_ROW: u8 = 2;
 pub const CURVE_NOT_RISING: u8 = 3;
@@ -133,7 +148,7 @@ pub const POWER: u8 = 7;
 pub const SAMPLE_FORM: u8 = 8;
 pub const IMAGE_BUFFER: u8 = 9;
 pub const SOURCE_LENGTH: u8 = 10;
-pub const NOT_RECOVERED: u8 = 11;
+pub const NOT_RECOVERED: u8 = 11; // or in an event (document 02, request 6)
 
 // Told: the numbers of the rules.
 pub const STATUS_BY_PERMISSION: u8 = 1;
@@ -154,6 +169,7 @@ pub const WATTS_BY_SHARE: u8 = 4;
 pub const WATTS_BY_CURVE: u8 = 5;
 pub const WATTS_BY_NAMEPLATE: u8 = 6;
 pub const WATTS_BY_RECOVERY: u8 = 7;
+pub const WATTS_BY_DROOP: u8 = 8;
 
 // ---------------------------------------------------------------------------
 // The sheet
@@ -478,10 +494,44 @@ fn count(before: u32, top: u32, again: bool) -> u32 {
 /// The full recovery count.
 const RECOVERY_TOP: u8 = 40;
 
+/// The highest power, all of the rating.
+const POWER_TOP: u16 = 10000;
+
+/// The two points of the droop, in millihertz. On them there is no event.
+const DROOP_LOW: u32 = 59964;
+const DROOP_HIGH: u32 = 60036;
+
+/// The side of the droop on which a frequency lies.
+fn side_of(frequency: u32) -> u8 {
+    if frequency > DROOP_HIGH {
+        HIGH_SIDE
+    } else if frequency < DROOP_LOW {
+        LOW_SIDE
+    } else {
+        NO_SIDE
+    }
+}
+
+/// The droop's power in an event, on the side of the frequency: the held power moved by the
+/// distance from that side's point, at most what is available.
+/// Decision: a held power above what is available is not lowered to it before it is moved; only
+/// the result is.
+fn droop(held: u16, frequency: u32, available: u32) -> i64 {
+    let held = i64::from(held);
+    let quotient = |distance: u32| i64::from(distance * 10 / 3); // rounded down
+    let moved = if frequency > DROOP_HIGH {
+        (held - quotient(frequency - DROOP_HIGH)).max(0)
+    } else {
+        held + quotient(DROOP_LOW - frequency)
+    };
+    moved.min(i64::from(available))
+}
+
 /// A fresh board: tripped, the recovery count full, everything else 0.
 pub fn fresh() -> Board {
     Board {
         status: TRIPPED, counters: [0; 9], ramp: 0, watts: 0, vars: 0, recovery: RECOVERY_TOP,
+        side: NO_SIDE, held: 0,
     }
 }
 
@@ -489,7 +539,8 @@ pub fn fresh() -> Board {
 #[allow(dead_code)] // the program reports samples only
 pub fn fresh_report() -> Report {
     Report {
-        status: TRIPPED, bits: [false; 9], share: 0, recovery: RECOVERY_TOP, watts: 0, vars: 0,
+        status: TRIPPED, bits: [false; 9], share: 0, recovery: RECOVERY_TOP, side: NO_SIDE, held: 0,
+        watts: 0, vars: 0,
     }
 }
 
@@ -531,8 +582,8 @@ pub fn step(board: &mut Board, settings: &Settings, sample: &[u32]) -> Result<Re
         .max(band_of_frequency(frequency));
 
     // Spec 6.10 to 6.12: service and ramp, on the record as it is read (5.4).
-    // The record's watts and vars are only written: no rule reads them, so how a lent
-    // record's watts above 10000 are read shows nowhere.
+    // The record's vars are only written: no rule reads them. Its watts are read where a droop
+    // event begins, and nowhere else.
     let in_service_before = (ENTERING..=CEASE).contains(&board.status);
     let ramp_before = if in_service_before { board.ramp.min(settings.ramp) } else { 0 };
     let in_service = if in_service_before { permission == 1 && !any_limit_bit } else { ready };
@@ -567,15 +618,37 @@ pub fn step(board: &mut Board, settings: &Settings, sample: &[u32]) -> Result<Re
         RECOVERY_TOP
     };
 
-    // Spec 7: vars and watts. 7.7: the recovery count limits watts.
+    // The droop event (document 02, request 6). It goes on where service and side do; otherwise
+    // an outside frequency begins a new one, the jump to the other side included.
+    // Decision: momentary and cease are in service, so there too an event begins, goes on and
+    // ends, though it gives no watts.
+    // Decision: it begins with the watts that the record shows, also where the record is tripped
+    // (or read so) and yet shows some: only its side, held power and ramp count are read as 0.
+    // Decision: an unknown side is none, so the event begins anew, and a held power without a
+    // side plays no part.
+    // Decision: the top of the held power is that of watts, 10000.
+    let side = if in_service { side_of(frequency) } else { NO_SIDE };
+    let held = if side == NO_SIDE {
+        0
+    } else if in_service_before && board.side == side {
+        board.held.min(POWER_TOP)
+    } else {
+        board.watts.min(POWER_TOP)
+    };
+
+    // Spec 7: vars and watts. 7.7: the recovery count limits watts. In an event the droop's power
+    // takes the place of three limits.
     // Told: the count is taken as this step leaves it, as share takes the ramp count. The
     // first step out of momentary or cease may thus give 250, and the fortieth all.
     let recovered = 10000 * i64::from(recovery) / i64::from(RECOVERY_TOP);
     let (watts, vars) = if (ENTERING..=MANDATORY).contains(&status) {
         let vars = curve(&settings.var, mean);
-        let watts = i64::from(available)
-            .min(i64::from(limit))
-            .min(share)
+        let asked = if side == NO_SIDE {
+            i64::from(available).min(i64::from(limit)).min(share)
+        } else {
+            droop(held, frequency, available)
+        };
+        let watts = asked
             .min(recovered)
             .min(curve(&settings.watt, mean))
             .min(watts_beside(vars));
@@ -586,8 +659,8 @@ pub fn step(board: &mut Board, settings: &Settings, sample: &[u32]) -> Result<Re
 
     // All of these are at most 10000 in size.
     let (share, watts, vars) = (share as u16, watts as u16, vars as i16);
-    *board = Board { status, counters, ramp, watts, vars, recovery };
-    Ok(Report { status, bits, share, recovery, watts, vars })
+    *board = Board { status, counters, ramp, watts, vars, recovery, side, held };
+    Ok(Report { status, bits, share, recovery, side, held, watts, vars })
 }
 
 // ---------------------------------------------------------------------------
@@ -651,21 +724,24 @@ fn rule_for_status(status_before: u8, permission: u32, report: &Report, by_band:
     }
 }
 
-/// The rule for the watts: the first of the six limits that equals the least of them.
+/// The rule for the watts: the first of the limits that equals the least of them.
 /// Decision: statuses with no output are those whose watts and vars are 0 by their rule: tripped,
 /// momentary, cease. Watts that come out as 0 in another status, as at every return, have a limit
 /// for a rule.
-/// Decision: where nothing holds the watts down all six are 10000, and the first is named.
-fn rule_for_watts(status: u8, limits: &[(u8, i64); 6]) -> u8 {
+/// Decision: where nothing holds the watts down all limits are 10000, and the first is named.
+fn rule_for_watts(status: u8, limits: &[(u8, i64)]) -> u8 {
     if status == TRIPPED || status == MOMENTARY || status == CEASE {
         return WATTS_BY_STATUS;
     }
-    let least = limits.iter().map(|&(_, limit)| limit).min().expect("six limits");
+    let least = limits.iter().map(|&(_, limit)| limit).min().expect("there are limits");
     let first = limits.iter().find(|&&(_, limit)| limit == least).expect("one is the least");
     first.0
 }
 
-/// The rules for the report of an accepted sample.
+/// The rules for the report of an accepted sample. The droop comes first of the limits in an
+/// event, where it stands for available, operator's limit and share.
+/// Decision: those three are then no limits and never named, and the droop is not without an
+/// event. Where it is what is available that keeps the droop's power down, the droop is named.
 fn explain(status_before: u8, settings: &Settings, sample: &[u32], report: &Report) -> Rules {
     let &[code_a, code_b, code_c, frequency, permission, available, limit] = sample else {
         unreachable!("an accepted sample has seven numbers");
@@ -676,15 +752,20 @@ fn explain(status_before: u8, settings: &Settings, sample: &[u32], report: &Repo
     // The report's vars are the var curve's wherever its watts have a limit for a rule. The
     // recovery count limits as this step leaves it (see the step).
     let recovered = 10000 * i64::from(report.recovery) / i64::from(RECOVERY_TOP);
-    let limits = [
-        (WATTS_BY_AVAILABLE, i64::from(available)),
-        (WATTS_BY_OPERATOR, i64::from(limit)),
-        (WATTS_BY_SHARE, i64::from(report.share)),
-        (WATTS_BY_CURVE, curve(&settings.watt, mean)),
-        (WATTS_BY_NAMEPLATE, watts_beside(i64::from(report.vars))),
-        (WATTS_BY_RECOVERY, recovered),
-    ];
-    Rules { status, limit: place, watts: rule_for_watts(report.status, &limits) }
+    let by_curve = (WATTS_BY_CURVE, curve(&settings.watt, mean));
+    let by_nameplate = (WATTS_BY_NAMEPLATE, watts_beside(i64::from(report.vars)));
+    let by_recovery = (WATTS_BY_RECOVERY, recovered);
+    let watts = if report.side == NO_SIDE {
+        let by_available = (WATTS_BY_AVAILABLE, i64::from(available));
+        let by_operator = (WATTS_BY_OPERATOR, i64::from(limit));
+        let by_share = (WATTS_BY_SHARE, i64::from(report.share));
+        let limits = [by_available, by_operator, by_share, by_curve, by_nameplate, by_recovery];
+        rule_for_watts(report.status, &limits)
+    } else {
+        let by_droop = (WATTS_BY_DROOP, droop(report.held, frequency, available));
+        rule_for_watts(report.status, &[by_droop, by_curve, by_nameplate, by_recovery])
+    };
+    Rules { status, limit: place, watts }
 }
 
 /// The step, with the rules beside its report. A refused call gives no rules.
@@ -700,9 +781,9 @@ pub fn step_explained(
 // The image
 // ---------------------------------------------------------------------------
 
-pub const IMAGE_SIZE: usize = 46;
+pub const IMAGE_SIZE: usize = 49;
 
-/// Saves the record's image, its fields as they are, in the first 46 bytes of the buffer.
+/// Saves the record's image, its fields as they are, in the first 49 bytes of the buffer.
 pub fn save(board: &Board, buffer: &mut [u8]) -> Result<(), u8> {
     if buffer.len() < IMAGE_SIZE {
         return Err(IMAGE_BUFFER);
@@ -715,6 +796,8 @@ pub fn save(board: &Board, buffer: &mut [u8]) -> Result<(), u8> {
     buffer[41..43].copy_from_slice(&board.watts.to_be_bytes());
     buffer[43..45].copy_from_slice(&board.vars.to_be_bytes());
     buffer[45] = board.recovery; // spec 9.1
+    buffer[46] = board.side;
+    buffer[47..49].copy_from_slice(&board.held.to_be_bytes());
     Ok(())
 }
 
@@ -724,19 +807,24 @@ pub fn save(board: &Board, buffer: &mut [u8]) -> Result<(), u8> {
 //
 // Told: the source is the image and nothing more; the result stands at the target's front; a
 // copy that touches bytes behind it is wrong.
-// Decision: both directions check, though only going back meets a recovery byte. A source that
-// is too long is as wrong as one that is too short, and neither direction lets an image through
-// that has the other form already.
-// Decision: a target is too short when the result does not fit, so 46 bytes are asked for going
-// forward and 45 going back, where `save` asks for 46 always.
+// Decision: both directions check, though only going back meets an end that can be off. A source
+// that is too long is as wrong as one that is too short, and neither direction lets an image
+// through that has the other form already.
+// Decision: a target is too short when the result does not fit, so 49 bytes are asked for going
+// forward and 45 going back, where `save` asks for 49 always.
 // Decision: as with `save`, bytes behind the result keep what they hold.
-// Decision: no byte but the recovery byte is judged. Wild statuses and counts are carried as they
-// are, and a board in momentary or cease gets its 40 like any other.
+// Decision: no byte but the four at the end is judged. Wild statuses and counts are carried as
+// they are, and a board in momentary or cease gets its 40 like any other.
+// Decision: an image of 46 bytes, which request 1 alone once had, has the wrong length both ways.
 
-/// The size of an old image, which lacks the recovery byte.
+/// The size of an old image, which lacks recovery, side and held power.
 pub const OLD_IMAGE_SIZE: usize = 45;
 
-/// Makes an old image a new one by adding a full recovery count.
+/// What a new image has behind an old one if it can be carried back: a full recovery count, no
+/// side and no held power.
+const CARRIED_END: [u8; IMAGE_SIZE - OLD_IMAGE_SIZE] = [RECOVERY_TOP, NO_SIDE, 0, 0];
+
+/// Makes an old image a new one by adding that end.
 pub fn carry_forward(source: &[u8], target: &mut [u8]) -> Result<(), u8> {
     if source.len() != OLD_IMAGE_SIZE {
         return Err(SOURCE_LENGTH);
@@ -745,18 +833,19 @@ pub fn carry_forward(source: &[u8], target: &mut [u8]) -> Result<(), u8> {
         return Err(IMAGE_BUFFER);
     }
     target[..OLD_IMAGE_SIZE].copy_from_slice(source);
-    target[OLD_IMAGE_SIZE] = RECOVERY_TOP;
+    target[OLD_IMAGE_SIZE..IMAGE_SIZE].copy_from_slice(&CARRIED_END);
     Ok(())
 }
 
-/// Makes a new image an old one, if all that this loses is a full recovery count.
+/// Makes a new image an old one, if all that this loses is that end.
 /// Decision: a recovery byte above 40 is refused too. A step would read it as 40, but on the way
-/// forward it would not come back as it was.
+/// forward it would not come back as it was. So is an unknown side, or a side or held power in a
+/// tripped image, though a step would read them as 0.
 pub fn carry_back(source: &[u8], target: &mut [u8]) -> Result<(), u8> {
     if source.len() != IMAGE_SIZE {
         return Err(SOURCE_LENGTH);
     }
-    if source[OLD_IMAGE_SIZE] != RECOVERY_TOP {
+    if source[OLD_IMAGE_SIZE..] != CARRIED_END {
         return Err(NOT_RECOVERED);
     }
     if target.len() < OLD_IMAGE_SIZE {
@@ -805,8 +894,8 @@ fn binary(bits: &[bool; 9]) -> u16 {
 fn report_line(report: &Report) -> String {
     let word = STATUS_WORDS[usize::from(report.status)];
     let bits = binary(&report.bits);
-    let Report { share, recovery, watts, vars, .. } = *report;
-    format!("(report {} {:09b} {} {} {} {})\n", word, bits, share, recovery, watts, vars)
+    let Report { share, recovery, side, held, watts, vars, .. } = *report;
+    format!("(report {word} {bits:09b} {share} {recovery} {side} {held} {watts} {vars})\n")
 }
 
 fn refused_line(number: u8, line_number: u64) -> String {
@@ -962,9 +1051,9 @@ fn bytes(word: &str) -> Vec<u8> {
 
 /// The words of an accepted step's report in an answer.
 fn report_words(report: &Report) -> String {
-    let Report { status, bits, share, recovery, watts, vars } = *report;
+    let Report { status, bits, share, recovery, side, held, watts, vars } = *report;
     let bits = binary(&bits);
-    format!("report {} {:09b} {} {} {} {}", status, bits, share, recovery, watts, vars)
+    format!("report {status} {bits:09b} {share} {recovery} {side} {held} {watts} {vars}")
 }
 
 /// The words of the rules in an answer.
@@ -978,8 +1067,10 @@ fn rules_words(rules: &Rules) -> String {
 /// Told: `forward` and `back` name the target's size and the source, whose word is missing when
 /// it is empty; the target is filled as the buffer of `save` is.
 /// Decision: STATUS is the number of the status, as in the record; hex digits are small.
-/// Decision: the recovery count is the fourteenth and last number of a `record` call, as in
-/// the image; in the answer to a `step` call it stands as in a report line.
+/// Decision: the recovery count is the fourteenth number of a `record` call, as in the image; in
+/// the answer to a `step` call it stands as in a report line.
+/// Told: side and held power are the fifteenth and the sixteenth, and stand right after the
+/// recovery in the answers too.
 fn answer_call(call: &str, board: &mut Board, settings: &mut Settings) -> String {
     let words: Vec<&str> = call.split_ascii_whitespace().collect();
     match words[0] {
@@ -989,7 +1080,7 @@ fn answer_call(call: &str, board: &mut Board, settings: &mut Settings) -> String
         }
         "record" => {
             let numbers = numbers(&words[1..]);
-            assert_eq!(numbers.len(), 14, "numbers of a record");
+            assert_eq!(numbers.len(), 16, "numbers of a record");
             *board = Board {
                 status: u8::try_from(numbers[0]).expect("status"),
                 counters: std::array::from_fn(|i| u32::try_from(numbers[1 + i]).expect("counter")),
@@ -997,6 +1088,8 @@ fn answer_call(call: &str, board: &mut Board, settings: &mut Settings) -> String
                 watts: u16::try_from(numbers[11]).expect("watts"),
                 vars: i16::try_from(numbers[12]).expect("vars"),
                 recovery: u8::try_from(numbers[13]).expect("recovery"),
+                side: u8::try_from(numbers[14]).expect("side"),
+                held: u16::try_from(numbers[15]).expect("held"),
             };
             "ok".to_string()
         }
@@ -1020,7 +1113,7 @@ fn answer_call(call: &str, board: &mut Board, settings: &mut Settings) -> String
             };
             let answer = answer.unwrap_or_else(|number| format!("refused {}", number));
             let mut image = [0; IMAGE_SIZE];
-            save(board, &mut image).expect("46 bytes hold an image");
+            save(board, &mut image).expect("49 bytes hold an image");
             format!("{} {}", answer, hex(&image))
         }
         "rules" => rules_words(&fresh_rules()),
@@ -1122,18 +1215,21 @@ mod tests {
 ";
 
     const LISTING_ANSWERS: &str = "\
-(report entering 000000001 0 40 0 0)
-(report entering 000000001 100 40 100 0)
-(report cease 000000000 100 0 0 0)
+(report entering 000000001 0 40 0 0 0 0)
+(report entering 000000001 100 40 0 0 100 0)
+(report cease 000000000 100 0 0 0 0 0)
 (refused 4 17)
-(report tripped 000000000 0 40 0 0)
+(report tripped 000000000 0 40 0 0 0 0)
 ";
 
     const GOOD: &str = "(at (1000 1000 1000) 60000 1 10000 10000)\n";
     const NORMAL: [u32; 7] = [1000, 1000, 1000, 60000, 1, 10000, 10000];
     const NO_PERMISSION: [u32; 7] = [1000, 1000, 1000, 60000, 0, 10000, 10000];
-    /// Mandatory by its frequency alone: vars 0, no limit of the default sheet broken.
+    /// Mandatory by its frequency alone: vars 0, no limit of the default sheet broken. An event on
+    /// the low side, whose quotient is 1165 x 10 / 3 = 3883.
     const LOW_HERTZ: [u32; 7] = [1000, 1000, 1000, 58799, 1, 10000, 10000];
+    /// Mandatory by its lowest voltage alone, without an event: uv1 broken, vars 1474 leave 9890.
+    const SAG: [u32; 7] = [774, 1000, 1000, 60000, 1, 10000, 10000];
     /// Momentary below and above, and cease.
     const LOW_DIP: [u32; 7] = [1000, 249, 1000, 60000, 1, 10000, 10000];
     const HIGH_SWELL: [u32; 7] = [1000, 1000, 1211, 60000, 1, 10000, 10000];
@@ -1199,6 +1295,24 @@ mod tests {
 
     fn in_service(ramp: u32) -> Board {
         Board { status: ENTERING, ramp, ..fresh() }
+    }
+
+    /// The side of a frequency, and by how much it moves the held power: by ten for every three
+    /// millihertz beyond the point, and by 3 or 6 for the one or two that are left.
+    fn beyond(frequency: u32) -> (u8, i64) {
+        let moved = |by: u32| i64::from(10 * (by / 3) + [0, 3, 6][by as usize % 3]);
+        match frequency {
+            0..=59963 => (2, moved(59964 - frequency)),
+            59964..=60036 => (0, 0),
+            _ => (1, moved(frequency - 60036)),
+        }
+    }
+
+    /// The droop's power in an event.
+    fn drooped(held: u16, frequency: u32, available: u32) -> i64 {
+        let (side, moved) = beyond(frequency);
+        let wanted = i64::from(held) + if side == 1 { -moved } else { moved };
+        wanted.clamp(0, i64::from(available))
     }
 
     // --- sensing ---
@@ -1475,7 +1589,7 @@ mod tests {
         ];
         for line in lines {
             let samples = format!("{}\n{}", line, GOOD);
-            let expected = "(refused 8 14)\n(report entering 000000001 0 40 0 0)\n";
+            let expected = "(refused 8 14)\n(report entering 000000001 0 40 0 0 0 0)\n";
             assert_eq!(after_quick_sheet(&samples), expected, "{:?}", line);
         }
     }
@@ -1498,8 +1612,8 @@ mod tests {
         for (line, number) in refusals {
             let samples = format!("{}{}\n{}", GOOD, line, GOOD);
             let expected = format!(
-                "(report entering 000000001 0 40 0 0)\n(refused {} 15)\n\
-                 (report entering 000000001 100 40 100 0)\n",
+                "(report entering 000000001 0 40 0 0 0 0)\n(refused {} 15)\n\
+                 (report entering 000000001 100 40 0 0 100 0)\n",
                 number
             );
             assert_eq!(after_quick_sheet(&samples), expected, "{}", line);
@@ -1512,7 +1626,8 @@ mod tests {
         for size in [1, 32, 33, 34, 73, 74, 75, 1000, BLOCK_SIZE - 1, BLOCK_SIZE, 3 * BLOCK_SIZE] {
             let long = format!("{}{}", GOOD.trim_end(), " ".repeat(size));
             let samples = format!("{}\n{}{}", long, GOOD, long);
-            let expected = "(refused 8 14)\n(report entering 000000001 0 40 0 0)\n(refused 8 16)\n";
+            let expected =
+                "(refused 8 14)\n(report entering 000000001 0 40 0 0 0 0)\n(refused 8 16)\n";
             assert_eq!(after_quick_sheet(&samples), expected);
             for end in ["", "\n"] {
                 let sheet = sheet_with(2, &format!("(trip (uv2 5000 200)){}", " ".repeat(size)));
@@ -1543,8 +1658,8 @@ mod tests {
         let answers = after_quick_sheet(&samples);
         let lines: Vec<&str> = answers.lines().collect();
         assert_eq!(lines.len(), 5000);
-        assert_eq!(lines[99], "(report entering 000000001 9900 40 9900 0)");
-        let full = "(report continuous 000000001 10000 40 10000 0)";
+        assert_eq!(lines[99], "(report entering 000000001 9900 40 0 0 9900 0)");
+        let full = "(report continuous 000000001 10000 40 0 0 10000 0)";
         assert!(lines[100..].iter().all(|line| *line == full));
     }
 
@@ -1554,7 +1669,7 @@ mod tests {
         input.extend_from_slice(b"\xff\xfe\n\0\n");
         input.extend_from_slice(GOOD.as_bytes());
         input.extend_from_slice(b"\xff");
-        let expected = "(refused 8 14)\n(refused 8 15)\n(report entering 000000001 0 40 0 0)\n\
+        let expected = "(refused 8 14)\n(refused 8 15)\n(report entering 000000001 0 40 0 0 0 0)\n\
                         (refused 8 17)\n";
         assert_eq!(program(input), expected);
     }
@@ -1578,7 +1693,7 @@ mod tests {
             let input = quick_sheet() + GOOD + "(at";
             let mut output = Vec::new();
             run(Failing(input.as_bytes(), kind), &mut output).unwrap();
-            assert_eq!(output, b"(report entering 000000001 0 40 0 0)\n(refused 8 15)\n");
+            assert_eq!(output, b"(report entering 000000001 0 40 0 0 0 0)\n(refused 8 15)\n");
             let mut output = Vec::new();
             run(Failing(b"(trip", kind), &mut output).unwrap();
             assert_eq!(output, b"(refused 1 1)\n");
@@ -1789,9 +1904,9 @@ mod tests {
     fn refusals_of_a_step_change_nothing() {
         let wild = Board {
             status: 200, counters: [u32::MAX; 9], ramp: u32::MAX, watts: u16::MAX, vars: i16::MIN,
-            recovery: u8::MAX,
+            recovery: u8::MAX, side: u8::MAX, held: u16::MAX,
         };
-        let recovering = Board { recovery: 7, ..in_service(50) };
+        let recovering = Board { recovery: 7, side: LOW_SIDE, held: 1234, ..in_service(50) };
         let refusals: [(&[u32], u8); 19] = [
             (&[], 8), (&[1000; 6], 8), (&[1000; 8], 8), (&[u32::MAX; 8], 8),
             (&[4096, 0, 0, 60000, 1, 0, 0], 4), (&[0, 4096, 0, 60000, 1, 0, 0], 4),
@@ -1864,13 +1979,16 @@ mod tests {
 
     #[test]
     fn fresh_board_and_its_report() {
-        let board =
-            Board { status: 0, counters: [0; 9], ramp: 0, watts: 0, vars: 0, recovery: 40 };
+        let board = Board {
+            status: 0, counters: [0; 9], ramp: 0, watts: 0, vars: 0, recovery: 40, side: 0, held: 0,
+        };
         assert_eq!(fresh(), board);
-        let report =
-            Report { status: 0, bits: [false; 9], share: 0, recovery: 40, watts: 0, vars: 0 };
+        let report = Report {
+            status: 0, bits: [false; 9], share: 0, recovery: 40, side: 0, held: 0, watts: 0,
+            vars: 0,
+        };
         assert_eq!(fresh_report(), report);
-        assert_eq!(report_line(&report), "(report tripped 000000000 0 40 0 0)\n");
+        assert_eq!(report_line(&report), "(report tripped 000000000 0 40 0 0 0 0)\n");
     }
 
     #[test]
@@ -1943,7 +2061,8 @@ mod tests {
             ([1441, 0, 1000, 50000], CEASE), ([774, 1000, 1000, 70000], CEASE),
         ];
         for ([a, b, c, frequency], status) in cases {
-            let mut board = in_service(99);
+            // Watts enough to feed in every event: at 62000 it takes 6546 of them.
+            let mut board = Board { watts: 10000, ..in_service(99) };
             let sample = [a, b, c, frequency, 1, 10000, 10000];
             let report = step(&mut board, &quick_settings(), &sample).unwrap();
             assert_eq!(report.status, status, "{:?}", sample);
@@ -2033,7 +2152,7 @@ mod tests {
     /// report's status, count and watts.
     fn recovering(board: &mut Board, sample: &[u32; 7]) -> (u8, u8, u16) {
         let report = step(board, &quick_settings(), sample).unwrap();
-        let mut image = [0xAA; 46];
+        let mut image = [0xAA; 49];
         save(board, &mut image).unwrap();
         assert_eq!((board.recovery, image[45]), (report.recovery, report.recovery));
         assert_eq!(board.watts, report.watts);
@@ -2064,14 +2183,19 @@ mod tests {
     #[test]
     fn recovery_in_mandatory() {
         for stop in [LOW_DIP, TOO_HIGH, FAR_BELOW, FAR_ABOVE] {
-            let mut board = in_service(100);
-            recovering(&mut board, &stop);
-            for k in 1..=45 {
-                let count = k.min(40);
-                let expected = (MANDATORY, count, 250 * u16::from(count));
-                assert_eq!(recovering(&mut board, &LOW_HERTZ), expected);
+            // By voltage, where vars leave 9890, and by frequency, in an event that holds 0.
+            for (sample, top) in [(SAG, 9890), (LOW_HERTZ, 3883)] {
+                let mut board = in_service(100);
+                recovering(&mut board, &stop);
+                for k in 1..=45 {
+                    let count = k.min(40);
+                    let expected = (MANDATORY, count, (250 * u16::from(count)).min(top));
+                    assert_eq!(recovering(&mut board, &sample), expected);
+                }
             }
-            // By turns with the continuous band.
+            // By turns with the continuous band. Each event holds the watts of the step before
+            // it, 250 less than the recovery lets pass, and adds more.
+            let mut board = in_service(100);
             recovering(&mut board, &stop);
             for k in 1..=45 {
                 let sample = if k % 2 == 0 { NORMAL } else { LOW_HERTZ };
@@ -2213,7 +2337,10 @@ mod tests {
                 let sample = [code, 1000, 1000, frequency, 1, 10000, 10000];
                 let report = step(&mut fresh(), &settings, &sample).unwrap();
                 assert!(report.status == TRIPPED || report.status == ENTERING);
-                assert_eq!((report.recovery, report.watts), (40, 0));
+                // At 59000 the droop adds 964 x 10 / 3 = 3213 to nothing; at 61000 it takes away.
+                let returned = report.status == ENTERING;
+                let watts = if returned && frequency == 59000 { 3213 } else { 0 };
+                assert_eq!((report.recovery, report.watts), (40, watts));
             }
         }
     }
@@ -2244,18 +2371,18 @@ mod tests {
         let lines: Vec<&str> = answers.lines().skip(100).collect();
         assert_eq!(lines.len(), 44);
         let expected = [
-            "(report continuous 000000001 10000 40 10000 0)",
-            "(report momentary 000000000 10000 0 0 0)",
-            "(report continuous 000000001 10000 1 250 0)",
-            "(report mandatory 000000000 10000 2 500 0)",
+            "(report continuous 000000001 10000 40 0 0 10000 0)",
+            "(report momentary 000000000 10000 0 0 0 0 0)",
+            "(report continuous 000000001 10000 1 0 0 250 0)",
+            "(report mandatory 000000000 10000 2 2 250 500 0)",
             "(refused 8 118)",
-            "(report continuous 000000001 10000 3 750 0)",
+            "(report continuous 000000001 10000 3 0 0 750 0)",
         ];
         assert_eq!(lines[..6], expected);
         let expected = [
-            "(report continuous 000000001 10000 39 9750 0)",
-            "(report continuous 000000001 10000 40 10000 0)",
-            "(report continuous 000000001 10000 40 10000 0)",
+            "(report continuous 000000001 10000 39 0 0 9750 0)",
+            "(report continuous 000000001 10000 40 0 0 10000 0)",
+            "(report continuous 000000001 10000 40 0 0 10000 0)",
         ];
         assert_eq!(lines[41..], expected);
     }
@@ -2315,7 +2442,8 @@ mod tests {
                 let count = if recovery < 40 { recovery + 1 } else { 40 };
                 let watts = 250 * u16::from(count);
                 let expected = [
-                    (NORMAL, (CONTINUOUS, count, watts)), (LOW_HERTZ, (MANDATORY, count, watts)),
+                    (NORMAL, (CONTINUOUS, count, watts)),
+                    (LOW_HERTZ, (MANDATORY, count, watts.min(3883))),
                     (LOW_DIP, (MOMENTARY, 0, 0)), (HIGH_SWELL, (MOMENTARY, 0, 0)),
                     (TOO_HIGH, (CEASE, 0, 0)), (NO_PERMISSION, (TRIPPED, 40, 0)),
                     (FAR_BELOW, (CEASE, 0, 0)), (FAR_ABOVE, (CEASE, 0, 0)),
@@ -2342,38 +2470,52 @@ mod tests {
             watts: 0xFEDC,
             vars: -2,
             recovery: 0x27,
+            side: 0xC3,
+            held: 0x9876,
         };
         let expected = "f10102030400000001000000020000000300000004000000050000000600000007\
-                        ffffffff0a0b0c0dfedcfffe27";
-        for size in [46, 47, 100] {
+                        ffffffff0a0b0c0dfedcfffe27c39876";
+        for size in [49, 50, 100] {
             let mut buffer = vec![0xAA; size];
             assert_eq!(save(&board, &mut buffer), Ok(()));
-            assert_eq!(hex(&buffer[..46]), expected);
-            assert!(buffer[46..].iter().all(|&byte| byte == 0xAA));
+            assert_eq!(hex(&buffer[..49]), expected);
+            assert!(buffer[49..].iter().all(|&byte| byte == 0xAA));
         }
     }
 
     #[test]
-    fn last_byte_of_the_image() {
-        let mut fresh_image = [0xAA; 46];
+    fn last_bytes_of_the_image() {
+        let mut fresh_image = [0xAA; 49];
         assert_eq!(save(&fresh(), &mut fresh_image), Ok(()));
-        assert_eq!((&fresh_image[..45], fresh_image[45]), (&[0; 45][..], 40));
-        // As it is, above 40 too; no other byte moves with it.
-        for recovery in 0..=255 {
-            let mut image = [0xAA; 47];
-            assert_eq!(save(&Board { recovery, ..fresh() }, &mut image), Ok(()));
+        assert_eq!((&fresh_image[..45], &fresh_image[45..]), (&[0; 45][..], &[40, 0, 0, 0][..]));
+        // As they are, above their tops too; no other byte moves with them.
+        let ended = |board: Board| {
+            let mut image = [0xAA; 50];
+            assert_eq!(save(&board, &mut image), Ok(()));
             assert_eq!(image[..45], fresh_image[..45]);
-            assert_eq!(image[45..], [recovery, 0xAA]);
+            [image[45], image[46], image[47], image[48], image[49]]
+        };
+        for byte in 0..=255 {
+            assert_eq!(ended(Board { recovery: byte, ..fresh() }), [byte, 0, 0, 0, 0xAA]);
+            assert_eq!(ended(Board { side: byte, ..fresh() }), [40, byte, 0, 0, 0xAA]);
+        }
+        let powers = [
+            (1, [0, 1]), (255, [0, 255]), (256, [1, 0]), (5000, [19, 136]), (10000, [39, 16]),
+            (10001, [39, 17]), (65535, [255, 255]),
+        ];
+        for (held, [high, low]) in powers {
+            assert_eq!(ended(Board { held, ..fresh() }), [40, 0, high, low, 0xAA]);
         }
     }
 
     #[test]
-    fn image_buffer_under_46_bytes() {
-        for size in [0, 1, 44, 45] {
+    fn image_buffer_under_49_bytes() {
+        for size in [0, 1, 44, 45, 46, 47, 48] {
             let mut buffer = vec![0xAA; size];
             assert_eq!(save(&fresh(), &mut buffer), Err(9));
             assert!(buffer.iter().all(|&byte| byte == 0xAA));
         }
+        assert_eq!(save(&fresh(), &mut [0xAA; 49]), Ok(()));
     }
 
     // --- carrying over ---
@@ -2392,11 +2534,26 @@ mod tests {
         (0..size).map(next).collect()
     }
 
-    /// A made new image with this recovery byte.
+    /// A made new image with this recovery byte, without side and held power.
     fn made_image(seed: u64, recovery: u8) -> Vec<u8> {
-        let mut image = made(seed, 46);
-        image[45] = recovery;
+        let mut image = made(seed, 49);
+        image[45..].copy_from_slice(&[recovery, 0, 0, 0]);
         image
+    }
+
+    /// The new image of an old one.
+    fn ended(old: &[u8]) -> Vec<u8> {
+        [old, &[40, 0, 0, 0]].concat()
+    }
+
+    /// Zeros, but this in the 46th place and, if there is none, in the fourth from the end.
+    fn with_recovery(length: usize, recovery: u8) -> Vec<u8> {
+        let mut source = vec![0; length];
+        let place = if length > 45 { 45 } else { length.saturating_sub(4) };
+        if length > 0 {
+            source[place] = recovery;
+        }
+        source
     }
 
     /// Carries into targets of this size that differ in what they held before. Each must give
@@ -2423,67 +2580,87 @@ mod tests {
     }
 
     #[test]
-    fn forward_adds_a_recovery_of_40() {
+    fn forward_adds_recovery_side_and_held_power() {
         let old: Vec<u8> = (101..=145).collect();
         let mut new = old.clone();
-        new.push(40);
-        assert_eq!(carried(carry_forward, &old, 46), new);
-        carries(carry_forward, &old, 46, Ok(&new));
+        new.extend([40, 0, 0, 0]);
+        assert_eq!(carried(carry_forward, &old, 49), new);
+        carries(carry_forward, &old, 49, Ok(&new));
         // The last byte of an old image is one of vars, not a count.
         for last in 0..=255 {
             let mut old = old.clone();
             old[44] = last;
-            let expected: Vec<u8> = (101..145).chain([last, 40]).collect();
-            carries(carry_forward, &old, 46, Ok(&expected));
+            let expected: Vec<u8> = (101..145).chain([last, 40, 0, 0, 0]).collect();
+            carries(carry_forward, &old, 49, Ok(&expected));
         }
     }
 
     #[test]
-    fn back_drops_a_recovery_of_40() {
+    fn back_drops_recovery_side_and_held_power() {
         let old: Vec<u8> = (101..=145).collect();
-        let new: Vec<u8> = (101..=145).chain([40]).collect();
+        let new: Vec<u8> = (101..=145).chain([40, 0, 0, 0]).collect();
         assert_eq!(carried(carry_back, &new, 45), old);
         carries(carry_back, &new, 45, Ok(&old));
-        carries(carry_back, &[40; 46], 45, Ok(&[40; 45]));
+        for byte in [0, 40, 255] {
+            carries(carry_back, &ended(&[byte; 45]), 45, Ok(&[byte; 45]));
+        }
     }
 
     #[test]
-    fn every_last_byte() {
-        for (seed, last) in (0..=255).enumerate() {
-            let new = made_image(seed as u64, last);
-            let same = [last; 46];
-            for size in [45, 46, 60] {
-                let expected = if last == 40 { Ok(&new[..45]) } else { Err(11) };
-                carries(carry_back, &new, size, expected);
-                let expected = if last == 40 { Ok(&same[..45]) } else { Err(11) };
-                carries(carry_back, &same, size, expected);
+    fn every_value_of_each_of_the_last_four_bytes() {
+        for (place, right) in [(45, 40), (46, 0), (47, 0), (48, 0)] {
+            for byte in 0..=255 {
+                let mut new = made_image(u64::from(byte), 40);
+                new[place] = byte;
+                for size in [45, 46, 49, 60] {
+                    let expected = if byte == right { Ok(&new[..45]) } else { Err(11) };
+                    carries(carry_back, &new, size, expected);
+                }
+                // The right bytes elsewhere do not help.
+                for other in [0, 40] {
+                    let mut new = ended(&[other; 45]);
+                    new[place] = byte;
+                    let expected = if byte == right { Ok(&[other; 45][..]) } else { Err(11) };
+                    carries(carry_back, &new, 45, expected);
+                }
+                carries(carry_back, &[byte; 49], 45, Err(11));
             }
-            // 40 elsewhere does not help.
-            let mut new = [40; 46];
-            new[45] = last;
-            let expected = if last == 40 { Ok(&[40; 45][..]) } else { Err(11) };
+        }
+        // Any choice of them off, each by one, all the rest right.
+        for choice in 0..16 {
+            let mut new = made_image(choice, 40);
+            for i in 0..4 {
+                new[45 + i] += (choice >> i & 1) as u8;
+            }
+            let expected = if choice == 0 { Ok(&new[..45]) } else { Err(11) };
             carries(carry_back, &new, 45, expected);
+        }
+        // The right ones in another order.
+        for end in [[0, 40, 0, 0], [0, 0, 40, 0], [0, 0, 0, 40], [0, 0, 0, 0], [40; 4]] {
+            carries(carry_back, &[&[7; 45][..], &end].concat(), 45, Err(11));
         }
     }
 
     #[test]
     fn each_refusal_of_carrying_alone() {
-        for length in [0, 1, 44, 46, 47, 90, 1000] {
-            for size in [46, 47, 100, 1000] {
+        for length in [0, 1, 44, 46, 47, 48, 49, 50, 90, 1000] {
+            for size in [49, 50, 100, 1000] {
                 carries(carry_forward, &vec![40; length], size, Err(10));
+                carries(carry_forward, &with_recovery(length, 40), size, Err(10));
             }
         }
-        for length in [0, 1, 44, 45, 47, 92, 1000] {
-            for size in [45, 46, 100, 1000] {
+        for length in [0, 1, 44, 45, 46, 47, 48, 50, 98, 1000] {
+            for size in [45, 46, 49, 100, 1000] {
                 carries(carry_back, &vec![40; length], size, Err(10));
+                carries(carry_back, &with_recovery(length, 40), size, Err(10));
             }
         }
         for recovery in [0, 1, 39, 41, 168, 255] {
-            for size in [45, 46, 100, 1000] {
+            for size in [45, 46, 49, 100, 1000] {
                 carries(carry_back, &made_image(1, recovery), size, Err(11));
             }
         }
-        for size in [0, 1, 44, 45] {
+        for size in [0, 1, 44, 45, 46, 47, 48] {
             carries(carry_forward, &made(2, 45), size, Err(9));
         }
         for size in [0, 1, 43, 44] {
@@ -2493,32 +2670,39 @@ mod tests {
 
     #[test]
     fn the_first_of_the_refusals_of_carrying() {
-        // Length (10) before target (9), both ways, where no recovery byte is wrong.
-        for length in [0, 1, 44, 46, 47] {
-            for size in [0, 1, 44, 45] {
-                carries(carry_forward, &vec![40; length], size, Err(10));
+        // Length (10) before target (9), both ways, where no byte of the end is wrong.
+        for length in [0, 1, 44, 46, 47, 48, 49, 50] {
+            for size in [0, 1, 44, 45, 46, 48] {
+                carries(carry_forward, &with_recovery(length, 40), size, Err(10));
             }
         }
-        for length in [0, 1, 44, 45, 47, 48] {
+        for length in [0, 1, 44, 45, 46, 47, 48, 50, 51] {
             for size in [0, 1, 44] {
-                carries(carry_back, &vec![40; length], size, Err(10));
+                carries(carry_back, &with_recovery(length, 40), size, Err(10));
             }
         }
-        // Recovery (11) before target (9).
-        for recovery in [0, 39, 41, 255] {
+        // A wrong end (11) before target (9).
+        for byte in [0, 1, 39, 41, 255] {
             for size in [0, 1, 43, 44] {
-                carries(carry_back, &made_image(4, recovery), size, Err(11));
-                carries(carry_back, &[recovery; 46], size, Err(11));
+                carries(carry_back, &made_image(4, byte), size, Err(11));
+                carries(carry_back, &[byte; 49], size, Err(11));
             }
         }
-        // Length (10) before recovery (11), whichever byte of the source is taken for it; and
-        // before recovery and target together.
-        for length in [0, 1, 44, 45, 47, 48] {
-            for size in [0, 1, 44, 45, 46, 60] {
+        for place in 45..49 {
+            for size in [0, 1, 43, 44] {
+                let mut source = made_image(4, 40);
+                source[place] += 1;
+                carries(carry_back, &source, size, Err(11));
+            }
+        }
+        // Length (10) before a wrong end (11), whichever bytes of the source are taken for it;
+        // and before end and target together.
+        for length in [0, 1, 44, 45, 46, 47, 48, 50, 51] {
+            for size in [0, 1, 44, 45, 46, 49, 60] {
                 carries(carry_back, &vec![39; length], size, Err(10));
                 for wrong in 0..length {
-                    let mut source = vec![40; length];
-                    source[wrong] = 41;
+                    let mut source = with_recovery(length, 40);
+                    source[wrong] += 1;
                     carries(carry_back, &source, size, Err(10));
                 }
             }
@@ -2530,14 +2714,13 @@ mod tests {
         let mut answers = [[0; 12]; 3]; // by source and number, 0 for none
         for length in 0..=60 {
             for size in 0..=60 {
-                let full = vec![40; length];
-                let short = vec![39; length];
+                let full = with_recovery(length, 40);
+                let short = with_recovery(length, 39);
                 let made = made(5, length);
                 for source in [&full, &short, &made] {
-                    let mut new = source.clone();
-                    new.push(40);
+                    let new = ended(source);
                     let expected = match (length, size) {
-                        (45, 46..) => Ok(&new[..]),
+                        (45, 49..) => Ok(&new[..]),
                         (45, _) => Err(9),
                         _ => Err(10),
                     };
@@ -2545,9 +2728,9 @@ mod tests {
                 }
                 for (i, source) in [&full, &short, &made].into_iter().enumerate() {
                     let expected = match (length, i, size) {
-                        (46, 0, 45..) => Ok(&source[..45]),
-                        (46, 0, _) => Err(9),
-                        (46, _, _) => Err(11),
+                        (49, 0, 45..) => Ok(&source[..45]),
+                        (49, 0, _) => Err(9),
+                        (49, _, _) => Err(11),
                         _ => Err(10),
                     };
                     carries(carry_back, source, size, expected);
@@ -2555,7 +2738,7 @@ mod tests {
                 }
             }
         }
-        assert_ne!(made(5, 46)[45], 40);
+        assert_ne!(made(5, 49)[45..], [40, 0, 0, 0]);
         assert_eq!(answers[0], [16, 0, 0, 0, 0, 0, 0, 0, 0, 45, 3660, 0]);
         assert_eq!(answers[1], [0, 0, 0, 0, 0, 0, 0, 0, 0, 0, 3660, 61]);
         assert_eq!(answers[2], answers[1]);
@@ -2563,21 +2746,21 @@ mod tests {
 
     #[test]
     fn bytes_behind_the_result() {
-        for size in (46..=100).chain([1000, 65536]) {
+        for size in (49..=100).chain([1000, 65536]) {
             let old = made(size as u64 + 1, 45);
-            let new = [&old[..], &[40]].concat();
+            let new = ended(&old);
             let behind = made(size as u64 + 2, size);
             let mut target = behind.clone();
             assert_eq!(carry_forward(&old, &mut target), Ok(()));
-            assert_eq!((&target[..46], &target[46..]), (&new[..], &behind[46..]));
+            assert_eq!((&target[..49], &target[49..]), (&new[..], &behind[49..]));
             let mut target = behind.clone();
             assert_eq!(carry_back(&new, &mut target), Ok(()));
             assert_eq!((&target[..45], &target[45..]), (&old[..], &behind[45..]));
-            // The byte right behind an old image may hold anything.
+            // The bytes right behind an old image may hold anything.
             for byte in 0..=255 {
-                let mut target = [byte; 47];
+                let mut target = [byte; 50];
                 assert_eq!(carry_back(&new, &mut target), Ok(()));
-                assert_eq!(target[45..], [byte; 2]);
+                assert_eq!(target[45..], [byte; 5]);
             }
         }
     }
@@ -2587,8 +2770,8 @@ mod tests {
         for (place, value) in (0..45).flat_map(|i| (0..=255).map(move |value| (i, value))) {
             for mut old in [vec![0; 45], vec![255; 45], made(6, 45)] {
                 old[place] = value;
-                let new = [&old[..], &[40]].concat();
-                assert_eq!(carried(carry_forward, &old, 46), new);
+                let new = ended(&old);
+                assert_eq!(carried(carry_forward, &old, 49), new);
                 assert_eq!(carried(carry_back, &new, 45), old);
             }
         }
@@ -2598,8 +2781,8 @@ mod tests {
     fn old_to_new_to_old() {
         for seed in 0..20000 {
             let old = made(seed, 45);
-            let new = carried(carry_forward, &old, 46);
-            assert_eq!((&new[..45], new[45]), (&old[..], 40));
+            let new = carried(carry_forward, &old, 49);
+            assert_eq!((&new[..45], &new[45..]), (&old[..], &[40, 0, 0, 0][..]));
             assert_eq!(carried(carry_back, &new, 45), old);
         }
     }
@@ -2610,66 +2793,76 @@ mod tests {
             let new = made_image(seed, 40);
             let old = carried(carry_back, &new, 45);
             assert_eq!(old, new[..45]);
-            assert_eq!(carried(carry_forward, &old, 46), new);
+            assert_eq!(carried(carry_forward, &old, 49), new);
             // Over what stood in the same two places before.
-            let (mut there, mut back) = (made(seed + 1, 45), made(seed + 2, 46));
+            let (mut there, mut back) = (made(seed + 1, 45), made(seed + 2, 49));
             assert_eq!(carry_back(&new, &mut there), Ok(()));
             assert_eq!(carry_forward(&there, &mut back), Ok(()));
             assert_eq!(back, new);
         }
-        // Made last bytes: there and back, or not at all.
+        // Last bytes that are each made or right, by turns: there and back, or not at all.
         let mut allowed = 0;
         for seed in 0..20000 {
-            let new = made(seed, 46);
+            let mut new = made(seed, 49);
+            for (i, right) in [40, 0, 0, 0].into_iter().enumerate() {
+                if new[i] < 128 {
+                    new[45 + i] = right;
+                }
+            }
             let mut old = [0xAA; 45];
             if carry_back(&new, &mut old).is_ok() {
-                assert_eq!(carried(carry_forward, &old, 46), new);
+                assert_eq!(carried(carry_forward, &old, 49), new);
                 allowed += 1;
             } else {
                 assert_eq!((carry_back(&new, &mut old), old), (Err(11), [0xAA; 45]));
-                assert_ne!(new[45], 40);
+                assert_ne!(new[45..], [40, 0, 0, 0]);
             }
         }
-        assert!((40..120).contains(&allowed), "{} of 20000", allowed);
+        assert!((1000..1600).contains(&allowed), "{} of 20000", allowed);
     }
 
     /// The record's image carried back and, where that is allowed, forward again. Gives the
     /// refusal's number, or 0.
     fn saved_and_carried(board: &Board) -> u8 {
-        let mut new = [0xAA; 46];
+        let mut new = [0xAA; 49];
         save(board, &mut new).unwrap();
-        if board.recovery != 40 {
+        if (board.recovery, board.side, board.held) != (40, 0, 0) {
             carries(carry_back, &new, 45, Err(11));
             return 11;
         }
         carries(carry_back, &new, 45, Ok(&new[..45]));
-        carries(carry_forward, &new[..45], 46, Ok(&new));
+        carries(carry_forward, &new[..45], 49, Ok(&new));
         let old = carried(carry_back, &new, 45);
-        assert_eq!(carried(carry_forward, &old, 46), new);
+        assert_eq!(carried(carry_forward, &old, 49), new);
         0
     }
 
     #[test]
     fn images_of_records_carried() {
         assert_eq!(saved_and_carried(&fresh()), 0);
-        let mut new = [0xAA; 46];
+        let mut new = [0xAA; 49];
         save(&fresh(), &mut new).unwrap();
         assert_eq!(carried(carry_back, &new, 45), [0; 45]);
-        assert_eq!(carried(carry_forward, &[0; 45], 46), new);
+        assert_eq!(carried(carry_forward, &[0; 45], 49), new);
         // Wild ones.
         for status in 0..=255 {
             for recovery in 0..=255 {
                 let board = Board {
                     status, counters: [u32::MAX; 9], ramp: u32::MAX, watts: u16::MAX,
-                    vars: i16::MIN, recovery,
+                    vars: i16::MIN, recovery, side: 0, held: 0,
                 };
                 assert_eq!(saved_and_carried(&board), if recovery == 40 { 0 } else { 11 });
+            }
+            // A side or a held power keeps it, in a tripped record too.
+            for (side, held) in [(1, 0), (2, 0), (3, 0), (255, 0), (0, 1), (0, 256), (1, 10000)] {
+                let board = Board { status, recovery: 40, side, held, ..fresh() };
+                assert_eq!(saved_and_carried(&board), 11);
             }
         }
         // The fields keep their places.
         let board = Board {
             status: 3, counters: [1, 2, 3, 4, 5, 6, 7, 8, 9], ramp: 0x0A0B0C0D, watts: 0x0E0F,
-            vars: -2, recovery: 40,
+            vars: -2, recovery: 40, side: 0, held: 0,
         };
         save(&board, &mut new).unwrap();
         let expected = "030000000100000002000000030000000400000005000000060000000700000008\
@@ -2697,7 +2890,7 @@ mod tests {
         assert_eq!(saved_and_carried(&board), 0);
         // Made histories, mostly of normal samples.
         let others =
-            [LOW_HERTZ, LOW_DIP, HIGH_SWELL, TOO_HIGH, NO_PERMISSION, FAR_BELOW, FAR_ABOVE];
+            [SAG, LOW_HERTZ, LOW_DIP, HIGH_SWELL, TOO_HIGH, NO_PERMISSION, FAR_BELOW, FAR_ABOVE];
         let mut answers = [[0, 0]; 6]; // by status: carried, refused
         for seed in 0..50 {
             let mut board = fresh();
@@ -2748,10 +2941,11 @@ mod tests {
         assert_eq!(status, [1, 2, 3, 4, 5, 6, 7]);
         let watts = [
             WATTS_BY_STATUS, WATTS_BY_AVAILABLE, WATTS_BY_OPERATOR, WATTS_BY_SHARE,
-            WATTS_BY_CURVE, WATTS_BY_NAMEPLATE, WATTS_BY_RECOVERY,
+            WATTS_BY_CURVE, WATTS_BY_NAMEPLATE, WATTS_BY_RECOVERY, WATTS_BY_DROOP,
         ];
-        assert_eq!(watts, [1, 2, 3, 4, 5, 6, 7]);
+        assert_eq!(watts, [1, 2, 3, 4, 5, 6, 7, 8]);
         assert_eq!(NO_LIMIT, 0);
+        assert_eq!([NO_SIDE, HIGH_SIDE, LOW_SIDE], [0, 1, 2]);
     }
 
     #[test]
@@ -2983,8 +3177,11 @@ mod tests {
     }
 
     /// Six limits of watts, in the order of their rules: those chosen 5000, the others a little
-    /// more or, if `far`, 10000. Gives settings, record and sample, for this frequency.
-    fn six_limits(chosen: u32, far: bool, frequency: u32) -> (Settings, Board, [u32; 7]) {
+    /// more or, if `far`, 10000. Gives settings, record and sample, for this lowest code and a
+    /// frequency without an event; only codes of 1000 and more are continuous.
+    fn six_limits(
+        chosen: u32, far: bool, code: u32, frequency: u32,
+    ) -> (Settings, Board, [u32; 7]) {
         let pick = |i: u32, exact: u32, near: u32, top: u32| match (chosen >> i & 1, far) {
             (1, _) => exact,
             (_, false) => near,
@@ -2996,35 +3193,32 @@ mod tests {
         settings.watt = settings.watt.map(|point| Point { power: watt, ..point });
         settings.var = settings.var.map(|point| Point { power: -vars, ..point });
         // The ramp count grows in the continuous band only.
-        let growth = u32::from(band_of_frequency(frequency) == Band::Continuous);
-        let ramp = pick(2, 50, 51, 100) - growth;
+        let ramp = pick(2, 50, 51, 100) - u32::from(code >= 1000);
         let recovery = pick(5, 20, 21, 40) as u8 - 1;
         let board = Board { recovery, ..in_service(ramp) };
         let available = pick(0, 5000, 5001, 10000);
         let limit = pick(1, 5000, 5001, 10000);
-        (settings, board, [1000, 1000, 1000, frequency, 1, available, limit])
+        (settings, board, [code, 1000, 1000, frequency, 1, available, limit])
     }
 
     #[test]
     fn the_first_of_six_limits_that_equals_the_least() {
         for chosen in 1..64 {
             for far in [false, true] {
-                let causes = [
-                    (60000, STATUS_BY_LOWEST), (58799, STATUS_BY_FREQUENCY),
-                    (57000, STATUS_BY_FREQUENCY), (62000, STATUS_BY_FREQUENCY),
-                ];
-                for (frequency, cause) in causes {
-                    let (settings, mut board, sample) = six_limits(chosen, far, frequency);
+                for (code, frequency) in
+                    [(1000, 60000), (774, 60000), (1000, 59964), (1000, 60036), (250, 60036)]
+                {
+                    let (settings, mut board, sample) = six_limits(chosen, far, code, frequency);
                     let (report, found) = explained(&mut board, &settings, &sample);
                     assert_eq!(report.watts, 5000);
                     let first = chosen.trailing_zeros() as u8;
-                    let expected = rules(cause, 0, WATTS_BY_AVAILABLE + first);
+                    let expected = rules(STATUS_BY_LOWEST, 0, WATTS_BY_AVAILABLE + first);
                     assert_eq!(found, expected, "{:06b}", chosen);
                 }
             }
         }
         // Nothing holds the watts down: all six are 10000.
-        let (settings, mut board, sample) = six_limits(0, true, 60000);
+        let (settings, mut board, sample) = six_limits(0, true, 1000, 60000);
         let (report, found) = explained(&mut board, &settings, &sample);
         assert_eq!((report.status, report.watts), (CONTINUOUS, 10000));
         assert_eq!(found, rules(STATUS_BY_LOWEST, 0, WATTS_BY_AVAILABLE));
@@ -3058,22 +3252,31 @@ mod tests {
             Settings { watt: quick.watt.map(|point| Point { power: 0, ..point }), ..quick };
         let no_room =
             Settings { var: quick.var.map(|point| Point { power: 10000, ..point }), ..quick };
-        for (frequency, cause) in [(60000, STATUS_BY_LOWEST), (61201, STATUS_BY_FREQUENCY)] {
+        for (code, frequency) in [(1000, 60000), (774, 60000), (1000, 59964), (774, 60036)] {
             let cases = [
                 (quick, 0, 10000, WATTS_BY_AVAILABLE), (quick, 10000, 0, WATTS_BY_OPERATOR),
                 (quick, 0, 0, WATTS_BY_AVAILABLE), (no_watt, 10000, 10000, WATTS_BY_CURVE),
                 (no_room, 10000, 10000, WATTS_BY_NAMEPLATE), (no_watt, 10000, 0, WATTS_BY_OPERATOR),
             ];
             for (settings, available, limit, expected) in cases {
-                let sample = [1000, 1000, 1000, frequency, 1, available, limit];
+                let sample = [code, 1000, 1000, frequency, 1, available, limit];
                 let (report, found) = explained(&mut in_service(100), &settings, &sample);
-                assert_eq!((report.watts, found), (0, rules(cause, 0, expected)));
+                assert_eq!((report.watts, found), (0, rules(STATUS_BY_LOWEST, 0, expected)));
+            }
+        }
+        // In an event on the high side that holds 0, the droop comes first.
+        for settings in [quick, no_watt, no_room] {
+            for (available, limit) in [(0, 10000), (10000, 0), (0, 0), (10000, 10000)] {
+                let sample = [1000, 1000, 1000, 61201, 1, available, limit];
+                let (report, found) = explained(&mut in_service(100), &settings, &sample);
+                let expected = rules(STATUS_BY_FREQUENCY, 0, WATTS_BY_DROOP);
+                assert_eq!((report.watts, found), (0, expected));
             }
         }
         // A share of 0: the ramp is held in mandatory.
-        let (status, found) = quickly(&mut in_service(0), &LOW_HERTZ);
+        let (status, found) = quickly(&mut in_service(0), &SAG);
         assert_eq!(status, MANDATORY);
-        assert_eq!(found, rules(STATUS_BY_FREQUENCY, 0, WATTS_BY_SHARE));
+        assert_eq!(found, rules(STATUS_BY_LOWEST, 0, WATTS_BY_SHARE));
         // And one that rounds to 0.
         let settings = Settings { ramp: 60000, ..quick };
         let (report, found) = explained(&mut in_service(4), &settings, &NORMAL);
@@ -3142,7 +3345,8 @@ mod tests {
         }
         assert_eq!(next(&NORMAL), rules(STATUS_BY_RETURN, 0, WATTS_BY_SHARE));
         assert_eq!(next(&NORMAL), rules(STATUS_BY_LOWEST, 0, WATTS_BY_SHARE));
-        assert_eq!(next(&LOW_HERTZ), rules(STATUS_BY_FREQUENCY, 0, WATTS_BY_SHARE));
+        assert_eq!(next(&SAG), rules(STATUS_BY_LOWEST, 0, WATTS_BY_SHARE));
+        assert_eq!(next(&LOW_HERTZ), rules(STATUS_BY_FREQUENCY, 0, WATTS_BY_DROOP));
         assert_eq!(next(&FAR_BELOW), rules(STATUS_BY_FREQUENCY, 0, WATTS_BY_STATUS));
         assert_eq!(next(&LOW_DIP), rules(STATUS_BY_LOWEST, 0, WATTS_BY_STATUS));
         assert_eq!(next(&NO_PERMISSION), rules(STATUS_BY_PERMISSION, 0, WATTS_BY_STATUS));
@@ -3153,7 +3357,7 @@ mod tests {
     fn a_refused_call_gives_no_rules() {
         let wild = Board {
             status: 200, counters: [u32::MAX; 9], ramp: u32::MAX, watts: u16::MAX, vars: i16::MIN,
-            recovery: u8::MAX,
+            recovery: u8::MAX, side: u8::MAX, held: u16::MAX,
         };
         let no_ramp = Settings { ramp: 0, ..quick_settings() };
         let mut flat = quick_settings();
@@ -3166,7 +3370,8 @@ mod tests {
             (&no_ramp, &NORMAL, 2), (&flat, &NORMAL, 3), (&flat, &[], 3),
         ];
         for (settings, sample, number) in refusals {
-            for before in [fresh(), wild, Board { recovery: 7, ..in_service(50) }] {
+            let drooping = Board { side: HIGH_SIDE, held: 1234, ..in_service(50) };
+            for before in [fresh(), wild, Board { recovery: 7, ..in_service(50) }, drooping] {
                 let mut board = before;
                 assert_eq!(step_explained(&mut board, settings, sample), Err(number));
                 assert_eq!(board, before);
@@ -3183,8 +3388,11 @@ mod tests {
     fn rules_of_wild_records() {
         for status in ENTERING..=CEASE {
             for (watts, vars) in [(0, 0), (u16::MAX, i16::MIN), (1, i16::MAX)] {
-                // Counts above their top are read as the top; watts and vars play no part.
-                let lent = Board { status, ramp: u32::MAX, recovery: 255, watts, vars, ..fresh() };
+                // Counts above their top are read as the top; where no event begins, watts and
+                // vars play no part, and where none is, neither do side and held power.
+                let lent = Board {
+                    status, ramp: u32::MAX, recovery: 255, watts, vars, side: 1, held: 1, ..fresh()
+                };
                 let expected = (CONTINUOUS, rules(STATUS_BY_LOWEST, 0, WATTS_BY_AVAILABLE));
                 assert_eq!(quickly(&mut lent.clone(), &NORMAL), expected);
                 let mut board = Board { recovery: 38, ..lent };
@@ -3248,24 +3456,36 @@ mod tests {
         }
         assert_eq!(rules.limit > 0, rules.status == STATUS_BY_LIMIT);
 
+        let (side, _) = beyond(frequency);
+        let expected = match (tripped, side) {
+            (true, _) | (_, 0) => (0, 0),
+            _ if !tripped_before && before.side == side => (side, before.held.min(10000)),
+            _ => (side, before.watts.min(10000)),
+        };
+        assert_eq!((report.side, report.held), expected);
+
+        // The limits in their order, the droop first, whichever of them there are.
         let mean = phases.iter().sum::<u32>() / 3;
-        let six = [
-            i64::from(available), i64::from(limit), i64::from(report.share),
-            curve(&settings.watt, mean), watts_beside(curve(&settings.var, mean)),
-            250 * i64::from(report.recovery),
+        let event = report.side != 0;
+        let seven = [
+            (WATTS_BY_DROOP, event.then(|| drooped(report.held, frequency, available))),
+            (WATTS_BY_AVAILABLE, (!event).then_some(i64::from(available))),
+            (WATTS_BY_OPERATOR, (!event).then_some(i64::from(limit))),
+            (WATTS_BY_SHARE, (!event).then_some(i64::from(report.share))),
+            (WATTS_BY_CURVE, Some(curve(&settings.watt, mean))),
+            (WATTS_BY_NAMEPLATE, Some(watts_beside(curve(&settings.var, mean)))),
+            (WATTS_BY_RECOVERY, Some(250 * i64::from(report.recovery))),
         ];
         let watts = i64::from(report.watts);
-        match rules.watts {
-            WATTS_BY_STATUS => assert!([0, 4, 5].contains(&report.status) && watts == 0),
-            rule @ WATTS_BY_AVAILABLE..=WATTS_BY_RECOVERY => {
-                assert!([1, 2, 3].contains(&report.status));
-                let i = usize::from(rule - WATTS_BY_AVAILABLE);
-                assert_eq!(six[i], watts);
-                assert!(six[..i].iter().all(|&other| other > watts));
-                assert!(six[i..].iter().all(|&other| other >= watts));
-            }
-            rule => panic!("no rule for the watts: {}", rule),
+        if rules.watts == WATTS_BY_STATUS {
+            assert!([0, 4, 5].contains(&report.status) && watts == 0);
+            return;
         }
+        assert!([1, 2, 3].contains(&report.status));
+        let i = seven.iter().position(|limit| limit.0 == rules.watts).expect("a rule of the seven");
+        assert_eq!(seven[i].1, Some(watts));
+        assert!(seven[..i].iter().all(|limit| limit.1.map_or(true, |other| other > watts)));
+        assert!(seven[i..].iter().all(|limit| limit.1.map_or(true, |other| other >= watts)));
     }
 
     #[test]
@@ -3274,13 +3494,13 @@ mod tests {
         let codes =
             [0, 249, 250, 700, 774, 775, 841, 1000, 1000, 1000, 1103, 1180, 1211, 1440, 1441];
         let hertz = [
-            40000, 56499, 56999, 57000, 58499, 58799, 59500, 60000, 60000, 60000, 60000, 60000,
-            61201, 62000, 62001, 80000,
+            40000, 56499, 56999, 57000, 58499, 58799, 59500, 59963, 59964, 60000, 60000, 60000,
+            60000, 60000, 60036, 60037, 60100, 61201, 62000, 62001, 80000,
         ];
         let powers = [0, 250, 5000, 9751];
         let mut by_status = [0; 8];
         let mut by_limit = [0; 9];
-        let mut by_watts = [0; 8];
+        let mut by_watts = [0; 9];
         for seed in 0..20000 {
             // A lent record, then some steps on it.
             let bytes = made(seed, 100);
@@ -3294,9 +3514,11 @@ mod tests {
                     _ => 0,
                 }),
                 ramp: byte() as u32, // above 100 mostly
-                watts: 0,
+                watts: 100 * byte() as u16, // above 10000 mostly
                 vars: 0,
                 recovery: byte() as u8, // above 40 mostly
+                side: (byte() % 4) as u8,
+                held: 100 * byte() as u16, // above 10000 mostly
             };
             for _ in 0..8 {
                 // Mostly one code for all three phases, permission and full power.
@@ -3326,8 +3548,8 @@ mod tests {
 
     /// Frequencies with the status of their own band and the limits of the default sheet that
     /// they break (uf1, uf2, of1, of2). The first and last that are accepted, and the ends of
-    /// every band, of "hertz" and of each limit, with their neighbours.
-    const HERTZ: [(u32, u8, [u32; 4]); 33] = [
+    /// every band, of "hertz", of the droop and of each limit, with their neighbours.
+    const HERTZ: [(u32, u8, [u32; 4]); 37] = [
         (40000, CEASE, [1, 1, 0, 0]), (40001, CEASE, [1, 1, 0, 0]),
         (56499, CEASE, [1, 1, 0, 0]),
         (56500, CEASE, [1, 0, 0, 0]), (56501, CEASE, [1, 0, 0, 0]),
@@ -3338,7 +3560,8 @@ mod tests {
         (58798, MANDATORY, [0; 4]), (58799, MANDATORY, [0; 4]),
         (58800, CONTINUOUS, [0; 4]), (58801, CONTINUOUS, [0; 4]),
         (59499, CONTINUOUS, [0; 4]), (59500, CONTINUOUS, [0; 4]), (59501, CONTINUOUS, [0; 4]),
-        (60000, CONTINUOUS, [0; 4]),
+        (59963, CONTINUOUS, [0; 4]), (59964, CONTINUOUS, [0; 4]), (60000, CONTINUOUS, [0; 4]),
+        (60036, CONTINUOUS, [0; 4]), (60037, CONTINUOUS, [0; 4]),
         (60099, CONTINUOUS, [0; 4]), (60100, CONTINUOUS, [0; 4]), (60101, CONTINUOUS, [0; 4]),
         (61199, CONTINUOUS, [0; 4]), (61200, CONTINUOUS, [0; 4]),
         (61201, MANDATORY, [0, 0, 1, 0]), (61202, MANDATORY, [0, 0, 1, 0]),
@@ -3396,13 +3619,14 @@ mod tests {
     /// Steps the board; the report must show the record, the image every byte of it.
     fn imaged(board: &mut Board, settings: &Settings, sample: &[u32]) -> (Report, Rules) {
         let (report, rules) = explained(board, settings, sample);
-        let Report { status, share, recovery, watts, vars, .. } = report;
+        let Report { status, share, recovery, side, held, watts, vars, .. } = report;
         assert_eq!(i64::from(share), 10000 * i64::from(board.ramp) / i64::from(settings.ramp));
         let counters: String = board.counters.map(|count| format!("{:08x}", count)).concat();
         let fields = format!("{:08x}{:04x}{:04x}{:02x}", board.ramp, watts, vars, recovery);
-        let mut image = [0xAA; 46];
+        let event = format!("{:02x}{:04x}", side, held);
+        let mut image = [0xAA; 49];
         save(board, &mut image).unwrap();
-        assert_eq!(hex(&image), format!("{:02x}{}{}", status, counters, fields));
+        assert_eq!(hex(&image), format!("{:02x}{}{}{}", status, counters, fields, event));
         (report, rules)
     }
 
@@ -3422,24 +3646,38 @@ mod tests {
                 _ => CEASE,
             };
             let sample = sample_of([1000; 3], frequency, 1);
-            let (report, rules) = explained(&mut in_service(99), &quick_settings(), &sample);
+            let mut board = Board { watts: 5000, ..in_service(99) };
+            let (report, rules) = explained(&mut board, &quick_settings(), &sample);
             assert_eq!(report.status, status, "{}", frequency);
             let cause = if status == CONTINUOUS { STATUS_BY_LOWEST } else { STATUS_BY_FREQUENCY };
             assert_eq!(rules.status, cause);
-            let numbers = match status {
-                CONTINUOUS => (10000, 40, 10000, WATTS_BY_AVAILABLE),
-                MANDATORY => (9900, 40, 9900, WATTS_BY_SHARE),
+            // Far below all is asked for that there is, far above nothing: 5000 are used up
+            // 1500 beyond the point on either side.
+            let side = beyond(frequency).0;
+            let asked = match frequency {
+                40000..=58464 => 10000,
+                61536.. => 0,
+                _ => drooped(5000, frequency, 10000) as u16,
+            };
+            let numbers = match (status, side) {
+                (CONTINUOUS, 0) => (10000, 40, 10000, WATTS_BY_AVAILABLE),
+                (CONTINUOUS, _) => (10000, 40, asked, WATTS_BY_DROOP),
+                (MANDATORY, _) => (9900, 40, asked, WATTS_BY_DROOP),
                 _ => (9900, 0, 0, WATTS_BY_STATUS),
             };
             assert_eq!((report.share, report.recovery, report.watts, rules.watts), numbers);
+            let held = if side == 0 { 0 } else { 5000 };
+            assert_eq!((report.side, report.held), (side, held), "{}", frequency);
             // A tripped board returns within "hertz" and shows no band elsewhere.
             let (report, rules) = explained(&mut fresh(), &quick_settings(), &sample);
-            let (status, rule) = match frequency {
-                59500..60101 => (ENTERING, STATUS_BY_RETURN),
-                _ => (TRIPPED, STATUS_BY_WAIT),
+            let (status, rule, side) = match frequency {
+                59500..60101 => (ENTERING, STATUS_BY_RETURN, side),
+                _ => (TRIPPED, STATUS_BY_WAIT, 0),
             };
             assert_eq!((report.status, rules.status), (status, rule), "{}", frequency);
-            assert_eq!((report.share, report.recovery, report.watts), (0, 40, 0));
+            let watts = if side == 2 { drooped(0, frequency, 10000) as u16 } else { 0 };
+            assert_eq!((report.share, report.recovery, report.watts), (0, 40, watts));
+            assert_eq!((report.side, report.held), (side, 0), "{}", frequency);
         }
         for frequency in [39999, 80001] {
             let mut board = in_service(99);
@@ -3460,25 +3698,43 @@ mod tests {
             let worst = by_volts.max(hertz.1);
             let feeds = worst == CONTINUOUS || worst == MANDATORY;
             let rule = if hertz.1 > by_volts { STATUS_BY_FREQUENCY } else { cause };
-            for (ramp, recovery) in [(100, 40), (50, 40), (99, 39), (100, 7), (50, 19), (0, 0)] {
-                let mut board = Board { counters: [3; 9], recovery, ..in_service(ramp) };
+            for (ramp, recovery, lent) in [
+                (100, 40, 0), (50, 40, 1), (99, 39, 2), (100, 7, 0), (50, 19, 2), (0, 0, 3),
+            ] {
+                let mut board = Board {
+                    counters: [3; 9], recovery, watts: 6000, side: lent, held: 3000,
+                    ..in_service(ramp)
+                };
                 let (report, found) = imaged(&mut board, &settings, &sample);
                 let ramp = if worst == CONTINUOUS { 100.min(ramp + 1) } else { ramp };
                 let recovery = if feeds { 40.min(recovery + 1) } else { 0 };
                 let status = if worst == CONTINUOUS && ramp < 100 { ENTERING } else { worst };
                 let share = 100 * ramp as u16;
-                let six = [10000, 10000, share, curve, nameplate, 250 * u16::from(recovery)];
-                let least = *six.iter().min().unwrap();
-                let first = six.iter().position(|&limit| limit == least).unwrap() as u8;
-                let (watts, vars, by) = match feeds {
-                    true => (least, vars, WATTS_BY_AVAILABLE + first),
-                    false => (0, 0, WATTS_BY_STATUS),
+                let (side, _) = beyond(hertz.0);
+                let held = match side {
+                    0 => 0,
+                    _ if side == lent => 3000,
+                    _ => 6000,
                 };
-                let expected = Board { status, counters, ramp, watts, vars, recovery };
+                let recovered = 250 * u16::from(recovery);
+                let six = [10000, 10000, share, curve, nameplate, recovered];
+                let asked = drooped(held, hertz.0, 10000) as u16;
+                let four = [asked, curve, nameplate, recovered];
+                let limits = if side == 0 { &six[..] } else { &four[..] };
+                let least = *limits.iter().min().unwrap();
+                let first = limits.iter().position(|&limit| limit == least).unwrap() as u8;
+                let (watts, vars, by) = match (feeds, side, first) {
+                    (false, ..) => (0, 0, WATTS_BY_STATUS),
+                    (true, 0, _) => (least, vars, WATTS_BY_AVAILABLE + first),
+                    (true, _, 0) => (least, vars, WATTS_BY_DROOP),
+                    (true, _, _) => (least, vars, WATTS_BY_CURVE + first - 1),
+                };
+                let expected = Board { status, counters, ramp, watts, vars, recovery, side, held };
                 assert_eq!(board, expected, "{:?}", sample);
                 let mut bits = [false; 9];
                 bits[8] = counters[8] == 4;
-                assert_eq!(report, Report { status, bits, share, recovery, watts, vars });
+                let expected = Report { status, bits, share, recovery, side, held, watts, vars };
+                assert_eq!(report, expected);
                 assert_eq!(found, rules(rule, 0, by), "{:?}", sample);
             }
         });
@@ -3488,24 +3744,39 @@ mod tests {
     fn hertz_beside_volts_when_tripped() {
         let settings = Settings { wait: 4, ..quick_settings() };
         for_hertz_and_volts(|hertz, volts| {
-            for (status, recovery) in [(0, 40), (0, 0), (6, 7), (255, 255)] {
+            let records = [(0, 40, 0), (0, 0, 2000), (6, 7, 500), (255, 255, 1)];
+            for (status, recovery, shown) in records {
                 for permission in [0, 1] {
                     let sample = sample_of(volts.0, hertz.0, permission);
                     let counters = three_and_one(hertz, volts, permission);
-                    let lent = Board { status, counters: [3; 9], recovery, ..in_service(50) };
+                    let lent = Board {
+                        status, counters: [3; 9], recovery, watts: shown, side: 1 + recovery % 2,
+                        held: 9000, ..in_service(50)
+                    };
                     let mut board = lent;
                     let (report, found) = imaged(&mut board, &settings, &sample);
                     let mut bits = [false; 9];
                     bits[8] = counters[8] == 4;
-                    // No band shows, nor a recovery from 0.
-                    let (status, vars, expected) = match bits[8] {
-                        true => (ENTERING, volts.4, rules(STATUS_BY_RETURN, 0, WATTS_BY_SHARE)),
-                        false => (TRIPPED, 0, fresh_rules()),
+                    // No band shows, nor a recovery from 0, nor the event that was lent: one that
+                    // begins now holds the watts shown. They stay below 4000, so that neither
+                    // watt curve nor nameplate binds where a board returns.
+                    let (side, _) = beyond(hertz.0);
+                    let (status, vars, side, by) = match (bits[8], side) {
+                        (true, 0) => (ENTERING, volts.4, 0, WATTS_BY_SHARE),
+                        (true, _) => (ENTERING, volts.4, side, WATTS_BY_DROOP),
+                        (false, _) => (TRIPPED, 0, 0, WATTS_BY_STATUS),
                     };
-                    let after = Board { status, counters, vars, ..fresh() };
+                    let (held, watts) = match side {
+                        0 => (0, 0),
+                        _ => (shown, drooped(shown, hertz.0, 10000) as u16),
+                    };
+                    let after = Board { status, counters, watts, vars, side, held, ..fresh() };
                     assert_eq!(board, after, "{:?}", sample);
-                    assert_eq!(report, Report { status, bits, vars, ..fresh_report() });
-                    assert_eq!(found, expected, "{:?}", sample);
+                    let expected =
+                        Report { status, bits, watts, vars, side, held, ..fresh_report() };
+                    assert_eq!(report, expected);
+                    let cause = if bits[8] { STATUS_BY_RETURN } else { STATUS_BY_WAIT };
+                    assert_eq!(found, rules(cause, 0, by), "{:?}", sample);
                 }
             }
         });
@@ -3516,8 +3787,11 @@ mod tests {
         let settings = Settings { wait: 4, ..quick_settings() };
         for_hertz_and_volts(|hertz, volts| {
             for status in ENTERING..=CEASE {
-                for recovery in [0, 7, 40] {
-                    let lent = Board { status, counters: [3; 9], recovery, ..in_service(50) };
+                for (recovery, side) in [(0, 0), (7, 1), (40, 2)] {
+                    let lent = Board {
+                        status, counters: [3; 9], recovery, watts: 800, side, held: 900,
+                        ..in_service(50)
+                    };
                     let mut board = lent;
                     let sample = sample_of(volts.0, hertz.0, 0);
                     let (report, found) = imaged(&mut board, &settings, &sample);
@@ -3539,9 +3813,9 @@ mod tests {
             let broken = [volts.3, hertz.2].concat();
             let times: [u32; 8] = std::array::from_fn(|i| broken[i] * settings.trips[i].time);
             let sample = sample_of(volts.0, hertz.0, 1);
-            for recovery in [0, 7, 40] {
+            for (recovery, side) in [(0, 0), (7, 1), (40, 2)] {
                 let all = all_but_one_step(&settings, &[0, 1, 2, 3, 4, 5, 6, 7]);
-                let mut board = Board { recovery, ..all };
+                let mut board = Board { recovery, watts: 800, side, held: 900, ..all };
                 let (report, found) = imaged(&mut board, &settings, &sample);
                 assert_eq!(board.counters[..8], times, "{:?}", sample);
                 assert_eq!(report.bits[..8], std::array::from_fn::<bool, 8, _>(|i| broken[i] == 1));
@@ -3554,6 +3828,7 @@ mod tests {
                 assert_eq!((report.status, found), (TRIPPED, expected), "{:?}", sample);
                 let zero = (report.share, report.recovery, report.watts, report.vars, board.ramp);
                 assert_eq!(zero, (0, 40, 0, 0, 0));
+                assert_eq!((report.side, report.held), (0, 0));
                 // Waiting from then on, the counters full.
                 let (report, found) = imaged(&mut board, &settings, &sample);
                 assert_eq!((report.status, report.recovery, found), (TRIPPED, 40, fresh_rules()));
@@ -3634,10 +3909,11 @@ mod tests {
         for frequency in [50000, 50001, 56999, 62001, 65999, 66000] {
             let sample = sample_of([1000; 3], frequency, 1);
             let mut board = Board { counters: [u32::MAX; 9], ..in_service(70) };
+            let side = if frequency < 57000 { LOW_SIDE } else { HIGH_SIDE };
             for _ in 0..20000 {
                 let (report, found) = explained(&mut board, &settings, &sample);
                 let ceased =
-                    Report { status: CEASE, share: 7000, recovery: 0, ..fresh_report() };
+                    Report { status: CEASE, share: 7000, recovery: 0, side, ..fresh_report() };
                 assert_eq!(report, ceased);
                 assert_eq!((board.counters, board.ramp), ([0; 9], 70));
                 assert_eq!(found, rules(STATUS_BY_FREQUENCY, 0, WATTS_BY_STATUS));
@@ -3660,9 +3936,10 @@ mod tests {
         // A limit on the very end: 57000 and 62000 do not break it, one further does.
         let mut settings = quick_settings();
         settings.trips[5].limit = 57000;
-        let cases = [(57000, 56999, [4, 5]), (62000, 62001, [6, 7])];
-        for (inside, outside, [slow, fast]) in cases {
-            let mut board = in_service(70);
+        // Inside, the droop moves the 7000 that are held by 9880 or 6546.
+        let cases = [(57000, 56999, [4, 5], 10000), (62000, 62001, [6, 7], 454)];
+        for (inside, outside, [slow, fast], asked) in cases {
+            let mut board = Board { watts: 7000, ..in_service(70) };
             for k in 1..=200 {
                 let far = k % 2 == 0;
                 let frequency = if far { outside } else { inside };
@@ -3670,7 +3947,7 @@ mod tests {
                 let (report, found) = imaged(&mut board, &settings, &sample);
                 let (status, recovery, watts, by) = match (far, k) {
                     (true, _) => (CEASE, 0, 0, WATTS_BY_STATUS),
-                    (false, 1) => (MANDATORY, 40, 7000, WATTS_BY_SHARE),
+                    (false, 1) => (MANDATORY, 40, asked, WATTS_BY_DROOP),
                     (false, _) => (MANDATORY, 1, 250, WATTS_BY_RECOVERY),
                 };
                 assert_eq!((report.status, report.recovery), (status, recovery));
@@ -3696,7 +3973,7 @@ mod tests {
         let mut settings = quick_settings();
         settings.trips[7].limit = 61800;
         for pattern in [[62000, 62000], [62001, 62001], [62000, 62001], [61801, 80000]] {
-            let mut board = in_service(100);
+            let mut board = Board { watts: 10000, ..in_service(100) };
             for k in 1..=16 {
                 let frequency = pattern[k % 2];
                 let sample = sample_of([1000; 3], frequency, 1);
@@ -3776,10 +4053,20 @@ mod tests {
                         let by_hertz = frequency != 60000;
                         let status = if by_hertz { MANDATORY } else { CONTINUOUS };
                         assert_eq!((report.status, report.recovery), (status, k.min(40)));
-                        let recovered = 250 * u16::from(k.min(40));
-                        assert_eq!((report.watts, report.vars), (recovered.min(8979), 4400));
+                        // At 57000 the droop asks for all. At 62000 it takes 6546 from the watts
+                        // of the step before.
+                        let recovered = |k: u8| (250 * u16::from(k.min(40))).min(8979);
+                        let watts = match frequency {
+                            62000 => recovered(k - 1).saturating_sub(6546),
+                            _ => recovered(k),
+                        };
+                        assert_eq!((report.watts, report.vars), (watts, 4400));
                         let cause = if by_hertz { STATUS_BY_FREQUENCY } else { STATUS_BY_LOWEST };
-                        let by = if k < 36 { WATTS_BY_RECOVERY } else { WATTS_BY_NAMEPLATE };
+                        let by = match frequency {
+                            62000 => WATTS_BY_DROOP,
+                            _ if k < 36 => WATTS_BY_RECOVERY,
+                            _ => WATTS_BY_NAMEPLATE,
+                        };
                         assert_eq!(found, rules(cause, 0, by));
                     }
                 }
@@ -3821,24 +4108,24 @@ mod tests {
         let answers = after_quick_sheet(&samples);
         let lines: Vec<&str> = answers.lines().skip(101).collect();
         let mut expected = vec![
-            "(report mandatory 000000000 10000 40 10000 0)",
-            "(report cease 000000000 10000 0 0 0)",
-            "(report mandatory 000000000 10000 1 250 0)",
-            "(report cease 000000000 10000 0 0 0)",
-            "(report cease 000000000 10000 0 0 0)",
+            "(report mandatory 000000000 10000 40 2 10000 10000 0)",
+            "(report cease 000000000 10000 0 2 10000 0 0)",
+            "(report mandatory 000000000 10000 1 1 0 0 0)",
+            "(report cease 000000000 10000 0 1 0 0 0)",
+            "(report cease 000000000 10000 0 2 0 0 0)",
             "(refused 5 120)",
-            "(report cease 000000000 10000 0 0 0)",
+            "(report cease 000000000 10000 0 1 0 0 0)",
             "(refused 5 122)",
-            "(report mandatory 000000000 10000 1 250 4400)",
-            "(report continuous 000000001 10000 2 500 0)",
+            "(report mandatory 000000000 10000 1 2 0 250 4400)",
+            "(report continuous 000000001 10000 2 0 0 500 0)",
         ];
-        expected.extend(["(report cease 000000000 10000 0 0 0)"; 15]);
-        expected.extend(["(report tripped 000000010 0 40 0 0)"; 2]);
+        expected.extend(["(report cease 000000000 10000 0 1 500 0 0)"; 15]);
+        expected.extend(["(report tripped 000000010 0 40 0 0 0 0)"; 2]);
         expected.extend([
-            "(report tripped 000000000 0 40 0 0)",
-            "(report entering 000000001 0 40 0 0)",
-            "(report cease 000000000 0 0 0 0)",
-            "(report entering 000000001 100 1 100 0)",
+            "(report tripped 000000000 0 40 0 0 0 0)",
+            "(report entering 000000001 0 40 0 0 0 0)",
+            "(report cease 000000000 0 0 2 0 0 0)",
+            "(report entering 000000001 100 1 0 0 100 0)",
         ]);
         assert_eq!(lines, expected);
     }
@@ -3887,7 +4174,7 @@ mod tests {
         for (ramp, answer) in RAMPS {
             let sheet = sheet_with(11, &format!("(enter (wait 0 {ramp}))"));
             let expected = match answer {
-                0 => "(report entering 000000001 0 40 0 0)\n(refused 8 15)\n".to_string(),
+                0 => "(report entering 000000001 0 40 0 0 0 0)\n(refused 8 15)\n".to_string(),
                 _ => format!("(refused {answer} 11)\n"),
             };
             let input = sheet + GOOD + "(at)\n";
@@ -3969,11 +4256,11 @@ mod tests {
         }
     }
 
-    /// The record's image in a buffer of 50 bytes.
-    fn imaged_bytes(board: &Board) -> [u8; 50] {
-        let mut buffer = [0xAA; 50];
+    /// The record's image in a buffer of 53 bytes.
+    fn imaged_bytes(board: &Board) -> [u8; 53] {
+        let mut buffer = [0xAA; 53];
         save(board, &mut buffer).unwrap();
-        assert_eq!(buffer[46..], [0xAA; 4]);
+        assert_eq!(buffer[49..], [0xAA; 4]);
         buffer
     }
 
@@ -3981,9 +4268,10 @@ mod tests {
     fn refused_lent_ramps_change_nothing() {
         let wild = Board {
             status: 200, counters: [u32::MAX; 9], ramp: u32::MAX, watts: u16::MAX, vars: i16::MIN,
-            recovery: u8::MAX,
+            recovery: u8::MAX, side: u8::MAX, held: u16::MAX,
         };
-        let records = [fresh(), wild, Board { recovery: 7, ..in_service(50) }, in_service(60000)];
+        let recovering = Board { recovery: 7, side: HIGH_SIDE, held: 1234, ..in_service(50) };
+        let records = [fresh(), wild, recovering, in_service(60000)];
         let samples: [&[u32]; 7] =
             [&NORMAL, &NO_PERMISSION, &TOO_HIGH, &[], &[4096; 7], &[0; 7], &[1000; 8]];
         for ramp in REFUSED_RAMPS {
@@ -4108,8 +4396,8 @@ mod tests {
             let rule = if k == 0 { STATUS_BY_RETURN } else { STATUS_BY_LOWEST };
             assert_eq!(found, rules(rule, 0, by));
         }
-        let full = format!("{:08x}{}", 60000, "0000ea602710000028");
-        assert_eq!(hex(&imaged_bytes(&board)[33..46]), full);
+        let full = format!("{:08x}{}", 60000, "0000ea602710000028000000");
+        assert_eq!(hex(&imaged_bytes(&board)[33..49]), full);
     }
 
     #[test]
@@ -4151,13 +4439,13 @@ mod tests {
         assert_eq!(lines.len(), 60005);
         for k in 0..60000 {
             let share = k / 6;
-            let expected = format!("(report entering 000000001 {share} 40 {share} 0)");
+            let expected = format!("(report entering 000000001 {share} 40 0 0 {share} 0)");
             assert_eq!(lines[k], expected, "sample {}", k);
         }
-        let full = "(report continuous 000000001 10000 40 10000 0)";
+        let full = "(report continuous 000000001 10000 40 0 0 10000 0)";
         let expected = [
-            "(report mandatory 000000000 9999 40 9999 0)", full, full, full,
-            "(report mandatory 000000000 10000 40 10000 0)",
+            "(report mandatory 000000000 9999 40 2 9999 10000 0)", full, full, full,
+            "(report mandatory 000000000 10000 40 2 10000 10000 0)",
         ];
         assert_eq!(lines[60000..], expected);
     }
@@ -4189,23 +4477,26 @@ mod tests {
     // Decision: both histories have the same sheet, and a run of no samples is a run. The pair that
     // needs all five may choose its sheet; ramps of 50000 steps or fewer have none.
 
-    /// Harmless, without power; mandatory with none and with little.
+    /// Harmless, without power; mandatory with none and with little, by voltage and, in an event
+    /// that shows what was fed before, by frequency.
     const IDLE: [u32; 7] = [1000, 1000, 1000, 60000, 1, 0, 10000];
-    const LOW_IDLE: [u32; 7] = [1000, 1000, 1000, 58799, 1, 10000, 0];
+    const SAG_IDLE: [u32; 7] = [774, 1000, 1000, 60000, 1, 10000, 0];
+    const SAG_FIVE: [u32; 7] = [774, 1000, 1000, 60000, 1, 5, 10000];
+    const LOW_IDLE: [u32; 7] = [1000, 1000, 1000, 58799, 1, 0, 10000];
     const LOW_FIVE: [u32; 7] = [1000, 1000, 1000, 58799, 1, 5, 10000];
 
     /// Samples of the runs that are tried. The ramp grows in the first four.
     const TRIED: [[u32; 7]; 12] = [
         NORMAL, IDLE, [841, 841, 841, 60000, 1, 10000, 10000],
         [1180, 1180, 1180, 61200, 1, 10000, 10000], LOW_HERTZ,
-        [774, 1000, 1000, 60000, 1, 10000, 10000], LOW_DIP, HIGH_SWELL, TOO_HIGH, FAR_BELOW,
-        FAR_ABOVE, NO_PERMISSION,
+        SAG, LOW_DIP, HIGH_SWELL, TOO_HIGH, FAR_BELOW, FAR_ABOVE, NO_PERMISSION,
     ];
 
     /// Ends of histories: none, then one for each band with output and without, limits about to
     /// run out, the way back, and two trips.
-    const ENDS: [&[[u32; 7]]; 13] = [
-        &[], &[IDLE], &[LOW_IDLE], &[LOW_FIVE], &[LOW_DIP], &[HIGH_SWELL], &[TOO_HIGH; 14],
+    const ENDS: [&[[u32; 7]]; 15] = [
+        &[], &[IDLE], &[SAG_IDLE], &[SAG_FIVE], &[LOW_IDLE], &[LOW_FIVE], &[LOW_DIP], &[HIGH_SWELL],
+        &[TOO_HIGH; 14],
         &[FAR_BELOW], &[FAR_ABOVE; 15], &[LOW_DIP, LOW_HERTZ], &[TOO_HIGH, IDLE],
         &[TOO_HIGH; 16], &[NO_PERMISSION],
     ];
@@ -4417,14 +4708,14 @@ mod tests {
     #[test]
     fn no_run_of_up_to_4_tells_them_apart() {
         let pairs = slow_pairs();
-        assert_eq!(pairs.len(), 7 * 9);
+        assert_eq!(pairs.len(), 7 * 11);
         let mut steps = [0; 6];
         for &(settings, pair) in &pairs {
             try_runs(&settings, pair, 4, 0, &mut steps);
             assert_eq!(parting(&settings, pair), Some(5));
         }
         let [tripped, entering, continuous, mandatory, momentary, cease] = steps;
-        assert_eq!(steps.iter().sum::<u32>(), 63 * (12 + 144 + 1728 + 20736));
+        assert_eq!(steps.iter().sum::<u32>(), 77 * (12 + 144 + 1728 + 20736));
         assert_eq!(continuous, 0);
         assert!([tripped, entering, mandatory, momentary, cease].iter().all(|&n| n > 100_000));
     }
@@ -4478,9 +4769,10 @@ mod tests {
         let begin = (fresh(), fresh_report());
         let (one, two) =
             (later(begin, &settings, &[NORMAL]), later(begin, &settings, &[NORMAL; 2]));
-        let image = |ramp: &str| format!("01{}00000001{ramp}0000000028", "00000000".repeat(8));
-        assert_eq!(hex(&imaged_bytes(&one.0)[..46]), image("00000000"));
-        assert_eq!(hex(&imaged_bytes(&two.0)[..46]), image("00000001"));
+        let image =
+            |ramp: &str| format!("01{}00000001{ramp}0000000028000000", "00000000".repeat(8));
+        assert_eq!(hex(&imaged_bytes(&one.0)[..49]), image("00000000"));
+        assert_eq!(hex(&imaged_bytes(&two.0)[..49]), image("00000001"));
         assert!(differ_in_ramp(&one.0, &two.0));
         for run in 0..5 {
             let samples = vec![NORMAL; run];
@@ -4531,6 +4823,983 @@ mod tests {
         }
     }
 
+    // --- droop ---
+
+    /// A normal sample at this frequency, and one with other powers.
+    fn at(frequency: u32) -> [u32; 7] {
+        sample_of([1000; 3], frequency, 1)
+    }
+
+    fn at_with(frequency: u32, available: u32, limit: u32) -> [u32; 7] {
+        [1000, 1000, 1000, frequency, 1, available, limit]
+    }
+
+    /// A board with a full ramp that feeds these watts.
+    fn feeding(watts: u16) -> Board {
+        Board { status: CONTINUOUS, watts, ..in_service(100) }
+    }
+
+    /// The same in an event.
+    fn drooping(watts: u16, side: u8, held: u16) -> Board {
+        Board { side, held, ..feeding(watts) }
+    }
+
+    /// Steps the board and gives side, held power and watts, which report, record and image must
+    /// show alike.
+    fn event(board: &mut Board, sample: &[u32; 7]) -> (u8, u16, u16) {
+        event_with(board, &quick_settings(), sample)
+    }
+
+    fn event_with(board: &mut Board, settings: &Settings, sample: &[u32; 7]) -> (u8, u16, u16) {
+        let (report, _) = imaged(board, settings, sample);
+        let shown = (report.side, report.held, report.watts);
+        assert_eq!((board.side, board.held, board.watts), shown);
+        shown
+    }
+
+    #[test]
+    fn ends_of_the_droop() {
+        let rows = [
+            (58800, 2, 5000, 8880), (59961, 2, 5000, 5010), (59962, 2, 5000, 5006),
+            (59963, 2, 5000, 5003), (59964, 0, 0, 10000), (59965, 0, 0, 10000),
+            (60000, 0, 0, 10000), (60035, 0, 0, 10000), (60036, 0, 0, 10000),
+            (60037, 1, 5000, 4997), (60038, 1, 5000, 4994), (60039, 1, 5000, 4990),
+            (61200, 1, 5000, 1120),
+        ];
+        for status in ENTERING..=CEASE {
+            for (frequency, side, held, watts) in rows {
+                let mut board = Board { status, ..feeding(5000) };
+                assert_eq!(event(&mut board, &at(frequency)), (side, held, watts), "{}", frequency);
+                assert_eq!(board.status, CONTINUOUS);
+                // A tripped board that does not return is in none.
+                for status in [TRIPPED, 6, 255] {
+                    let mut board = Board { status, ..feeding(5000) };
+                    let mut sample = at(frequency);
+                    sample[4] = 0;
+                    assert_eq!(event(&mut board, &sample), (0, 0, 0));
+                }
+            }
+        }
+    }
+
+    #[test]
+    fn quotients_are_rounded_down() {
+        // The distance from the point, and the power that it is worth.
+        let rows: [(u32, u16); 22] = [
+            (1, 3), (2, 6), (3, 10), (4, 13), (5, 16), (6, 20), (7, 23), (8, 26), (9, 30), (10, 33),
+            (11, 36), (12, 40), (100, 333), (101, 336), (102, 340), (299, 996), (300, 1000),
+            (301, 1003), (999, 3330), (1164, 3880), (1165, 3883), (1499, 4996),
+        ];
+        for (distance, worth) in rows {
+            assert_eq!(beyond(60036 + distance), (1, i64::from(worth)));
+            assert_eq!(beyond(59964 - distance), (2, i64::from(worth)));
+            for held in [4996, 4997, 4998, 5000, 5001] {
+                let high = (1, held, held - worth.min(held));
+                assert_eq!(event(&mut feeding(held), &at(60036 + distance)), high);
+                let low = (2, held, (held + worth).min(10000));
+                assert_eq!(event(&mut feeding(held), &at(59964 - distance)), low);
+            }
+        }
+        // Before it is used, so that 5000 less 3.33 are 4997 and not 4996.
+        assert_eq!(event(&mut feeding(5000), &at(60037)), (1, 5000, 4997));
+        assert_eq!(event(&mut feeding(5000), &at(60038)), (1, 5000, 4994));
+        assert_eq!(event(&mut feeding(5000), &at(59962)), (2, 5000, 5006));
+    }
+
+    #[test]
+    fn the_ends_of_the_droops_power() {
+        // High: down to 0 and never below. Low: up to what is available and never above.
+        let high = [
+            (60037, 0, 0), (60037, 1, 0), (60037, 2, 0), (60037, 3, 0), (60037, 4, 1),
+            (60039, 9, 0), (60039, 10, 0), (60039, 11, 1), (61200, 3879, 0), (61200, 3880, 0),
+            (61200, 3881, 1), (61200, 10000, 6120), (62000, 6545, 0), (62000, 6546, 0),
+            (62000, 6547, 1), (62000, 10000, 3454), (62000, 0, 0),
+        ];
+        for (frequency, held, watts) in high {
+            assert_eq!(event(&mut feeding(held), &at(frequency)), (1, held, watts));
+        }
+        let low = [
+            (59963, 0, 10000, 3), (59963, 9996, 10000, 9999), (59963, 9997, 10000, 10000),
+            (59963, 9998, 10000, 10000), (59963, 10000, 10000, 10000), (59963, 0, 2, 2),
+            (59963, 0, 3, 3), (59963, 0, 4, 3), (59963, 5000, 5002, 5002),
+            (59963, 5000, 5003, 5003), (59963, 5000, 5004, 5003), (58800, 6119, 10000, 9999),
+            (58800, 6120, 10000, 10000), (58800, 6121, 10000, 10000), (57000, 0, 10000, 9880),
+            (57000, 119, 10000, 9999), (57000, 120, 10000, 10000), (57000, 10000, 10000, 10000),
+            (57000, 10000, 0, 0), (57000, 0, 0, 0),
+        ];
+        for (frequency, held, available, watts) in low {
+            let sample = at_with(frequency, available, 10000);
+            assert_eq!(event(&mut feeding(held), &sample), (2, held, watts), "{:?}", sample);
+        }
+        // Far outside there is no output, though side and held power are there.
+        for (frequency, side) in [(40000, 2), (56999, 2), (62001, 1), (80000, 1)] {
+            assert_eq!(event(&mut feeding(7000), &at(frequency)), (side, 7000, 0));
+        }
+        // The power itself, as far as the frequency goes: 66546 and 66546 away.
+        for held in [0, 5000, 10000] {
+            assert_eq!(droop(held, 80000, 10000), 0);
+            assert_eq!(droop(held, 40000, 10000), 10000);
+            assert_eq!(droop(held, 40000, 7), 7);
+        }
+    }
+
+    #[test]
+    fn the_droop_by_another_way() {
+        for frequency in (40000..59964).chain(60037..=80000) {
+            for held in [0, 1, 2, 3, 4, 3333, 5000, 9999, 10000] {
+                for available in [0, 1, 3333, 5000, 9999, 10000] {
+                    let expected = drooped(held, frequency, available);
+                    assert_eq!(droop(held, frequency, available), expected);
+                }
+            }
+        }
+    }
+
+    #[test]
+    fn what_is_available_caps_the_result_and_not_the_held_power() {
+        // 6000 held, 100 moved. With 5950 available the high side still gives 5900.
+        let rows = [
+            (60066, 10000, 5900), (60066, 5950, 5900), (60066, 5901, 5900), (60066, 5900, 5900),
+            (60066, 5899, 5899), (60066, 100, 100), (60066, 0, 0), (59934, 10000, 6100),
+            (59934, 6101, 6100), (59934, 6100, 6100), (59934, 6099, 6099), (59934, 6000, 6000),
+            (59934, 5000, 5000), (59934, 0, 0),
+        ];
+        for (frequency, available, watts) in rows {
+            let side = if frequency == 60066 { 1 } else { 2 };
+            let sample = at_with(frequency, available, 10000);
+            // As the event begins, and as it goes on.
+            assert_eq!(event(&mut feeding(6000), &sample), (side, 6000, watts));
+            assert_eq!(event(&mut drooping(77, side, 6000), &sample), (side, 6000, watts));
+        }
+    }
+
+    #[test]
+    fn available_power_that_falls_and_rises() {
+        for (frequency, side, asked) in [(60066, 1, 5900), (59934, 2, 6100)] {
+            let mut board = feeding(6000);
+            for available in (0..=10000).rev().step_by(50).chain((0..=10000).step_by(50)) {
+                let sample = at_with(frequency, available, 10000);
+                let watts = (available as u16).min(asked);
+                assert_eq!(event(&mut board, &sample), (side, 6000, watts));
+            }
+            // Back between the points there is all again.
+            assert_eq!(event(&mut board, &NORMAL), (0, 0, 10000));
+        }
+    }
+
+    #[test]
+    fn limit_and_share_do_not_bind_in_an_event() {
+        let shares = [(0, 100), (1, 200), (49, 5000), (58, 5900), (99, 10000), (100, 10000)];
+        for (ramp, share) in shares {
+            for limit in [0, 1, 5899, 5900, 6100, 10000] {
+                for (frequency, side, watts) in [(60066, 1, 5900), (59934, 2, 6100)] {
+                    for lent in [0, side] {
+                        let mut board = Board {
+                            side: lent, held: 6000, watts: 6000, ..in_service(ramp)
+                        };
+                        let sample = at_with(frequency, 10000, limit);
+                        let (report, found) = imaged(&mut board, &quick_settings(), &sample);
+                        assert_eq!((report.share, report.watts), (share, watts));
+                        assert_eq!((report.side, report.held), (side, 6000));
+                        assert_eq!(found, rules(STATUS_BY_LOWEST, 0, WATTS_BY_DROOP));
+                    }
+                }
+                // They do on the points.
+                for frequency in [59964, 60036] {
+                    let mut board = Board { side: 1, held: 6000, watts: 6000, ..in_service(ramp) };
+                    let watts = share.min(limit as u16);
+                    let sample = at_with(frequency, 10000, limit);
+                    assert_eq!(event(&mut board, &sample), (0, 0, watts));
+                }
+            }
+        }
+    }
+
+    #[test]
+    fn curve_nameplate_and_recovery_bind_in_an_event() {
+        // 1180: the watt curve's 4760, vars -4400. 841: vars 4400 leave 8979.
+        let rows = [
+            ([1180; 3], 40, 60037, 4762, 4759, WATTS_BY_DROOP),
+            ([1180; 3], 40, 60037, 4763, 4760, WATTS_BY_DROOP),
+            ([1180; 3], 40, 60037, 4764, 4760, WATTS_BY_CURVE),
+            ([1180; 3], 40, 59963, 4756, 4759, WATTS_BY_DROOP),
+            ([1180; 3], 40, 59963, 4757, 4760, WATTS_BY_DROOP),
+            ([1180; 3], 40, 59963, 4758, 4760, WATTS_BY_CURVE),
+            ([1180; 3], 40, 59000, 10000, 4760, WATTS_BY_CURVE),
+            ([841; 3], 40, 60037, 8981, 8978, WATTS_BY_DROOP),
+            ([841; 3], 40, 60037, 8982, 8979, WATTS_BY_DROOP),
+            ([841; 3], 40, 60037, 8983, 8979, WATTS_BY_NAMEPLATE),
+            ([841; 3], 40, 59000, 10000, 8979, WATTS_BY_NAMEPLATE),
+            ([1000; 3], 6, 60037, 1752, 1749, WATTS_BY_DROOP),
+            ([1000; 3], 6, 60037, 1753, 1750, WATTS_BY_DROOP),
+            ([1000; 3], 6, 60037, 1754, 1750, WATTS_BY_RECOVERY),
+            ([1000; 3], 0, 59000, 10000, 250, WATTS_BY_RECOVERY),
+            ([1180; 3], 18, 59000, 10000, 4750, WATTS_BY_RECOVERY),
+            ([1180; 3], 19, 59000, 10000, 4760, WATTS_BY_CURVE),
+            ([841; 3], 34, 59000, 10000, 8750, WATTS_BY_RECOVERY),
+            ([841; 3], 35, 59000, 10000, 8979, WATTS_BY_NAMEPLATE),
+        ];
+        for (codes, recovery, frequency, held, watts, by) in rows {
+            let mut board = Board { recovery, ..feeding(held) };
+            let sample = sample_of(codes, frequency, 1);
+            let (report, found) = imaged(&mut board, &quick_settings(), &sample);
+            assert_eq!((report.held, report.watts), (held, watts), "{:?}", sample);
+            assert_eq!(found.watts, by, "{:?} {}", sample, held);
+            // What they hold down is not held: the event goes on with what it began with.
+            let next = drooped(held, 60037, 10000) as u16;
+            if frequency == 60037 {
+                let mut board = Board { recovery: 40, ..board };
+                assert_eq!(event(&mut board, &at(60037)), (1, held, next));
+            }
+        }
+    }
+
+    #[test]
+    fn held_power_stays_while_the_side_does() {
+        // 6000 before the event, by what is available; 30 and 60 millihertz are worth 100 and 200.
+        let mut board = feeding(10000);
+        assert_eq!(event(&mut board, &at_with(60000, 6000, 10000)), (0, 0, 6000));
+        assert_eq!(event(&mut board, &at(60066)), (1, 6000, 5900));
+        assert_eq!(event(&mut board, &at(60096)), (1, 6000, 5800));
+        assert_eq!(event(&mut board, &at(60037)), (1, 6000, 5997));
+        assert_eq!(event(&mut board, &at_with(60037, 300, 20)), (1, 6000, 300));
+        assert_eq!(event(&mut board, &at_with(60066, 10000, 20)), (1, 6000, 5900));
+        assert_eq!(event(&mut board, &at(61200)), (1, 6000, 2120));
+        assert_eq!(event(&mut board, &at(61836)), (1, 6000, 0));
+        assert_eq!(event(&mut board, &at(61835)), (1, 6000, 4));
+        assert_eq!(event(&mut board, &at(60036)), (0, 0, 10000));
+        // The low side, with 4000 before it, by the operator's limit.
+        assert_eq!(event(&mut board, &at_with(59964, 10000, 4000)), (0, 0, 4000));
+        assert_eq!(event(&mut board, &at(59934)), (2, 4000, 4100));
+        assert_eq!(event(&mut board, &at(59904)), (2, 4000, 4200));
+        assert_eq!(event(&mut board, &at(59963)), (2, 4000, 4003));
+        assert_eq!(event(&mut board, &at_with(59963, 300, 20)), (2, 4000, 300));
+        assert_eq!(event(&mut board, &at(57000)), (2, 4000, 10000));
+        assert_eq!(event(&mut board, &at(59963)), (2, 4000, 4003));
+        assert_eq!(event(&mut board, &at_with(59964, 10000, 4000)), (0, 0, 4000));
+        // For long, and with the share, 10000 then, long past what is held.
+        let mut board = fresh();
+        for k in 0..=20 {
+            assert_eq!(event(&mut board, &NORMAL), (0, 0, 100 * k));
+        }
+        for _ in 0..1000 {
+            assert_eq!(event(&mut board, &at(59934)), (2, 2000, 2100));
+        }
+        assert_eq!((board.status, board.ramp), (CONTINUOUS, 100));
+        assert_eq!(event(&mut board, &NORMAL), (0, 0, 10000));
+    }
+
+    #[test]
+    fn a_jump_begins_a_new_event() {
+        let mut board = feeding(6000);
+        for _ in 0..100 {
+            assert_eq!(event(&mut board, &at(60066)), (1, 6000, 5900));
+            assert_eq!(event(&mut board, &at(60096)), (1, 6000, 5800));
+            assert_eq!(event(&mut board, &at(60066)), (1, 6000, 5900));
+            assert_eq!(event(&mut board, &at(59934)), (2, 5900, 6000));
+            assert_eq!(event(&mut board, &at(59904)), (2, 5900, 6100));
+            assert_eq!(event(&mut board, &at(59934)), (2, 5900, 6000));
+        }
+        // From one end to the other.
+        assert_eq!(event(&mut board, &at(60037)), (1, 6000, 5997));
+        assert_eq!(event(&mut board, &at(59963)), (2, 5997, 6000));
+        assert_eq!(event(&mut board, &at(60038)), (1, 6000, 5994));
+        assert_eq!(event(&mut board, &at(59962)), (2, 5994, 6000));
+        // What held the watts down before the jump counts, whatever it is.
+        assert_eq!(event(&mut board, &at_with(59962, 1234, 0)), (2, 5994, 1234));
+        assert_eq!(event(&mut board, &at(60037)), (1, 1234, 1231));
+        let curve = sample_of([1180; 3], 58800, 1);
+        assert_eq!(event(&mut board, &curve), (2, 1231, 4760));
+        assert_eq!(event(&mut board, &at(60037)), (1, 4760, 4757));
+        // No output before it: nothing is held.
+        let ceased = [1441, 1000, 1000, 60037, 1, 10000, 10000];
+        assert_eq!(event(&mut board, &ceased), (1, 4760, 0));
+        assert_eq!(event(&mut board, &at(59934)), (2, 0, 100));
+        assert_eq!(event(&mut board, &FAR_BELOW), (2, 0, 0));
+        assert_eq!(event(&mut board, &FAR_ABOVE), (1, 0, 0));
+        assert_eq!(event(&mut board, &FAR_BELOW), (2, 0, 0));
+    }
+
+    #[test]
+    fn one_sample_between_the_points() {
+        for between in [59964, 60000, 60036] {
+            let rows = [(60066, 1, 5900, 3900), (59934, 2, 6100, 4100)];
+            for (first, first_side, first_watts, _) in rows {
+                for (second, side, _, watts) in rows {
+                    let mut board = feeding(6000);
+                    assert_eq!(event(&mut board, &at(first)), (first_side, 6000, first_watts));
+                    // Its own watts, 4000, are what the next event holds.
+                    assert_eq!(event(&mut board, &at_with(between, 4000, 10000)), (0, 0, 4000));
+                    assert_eq!(event(&mut board, &at(second)), (side, 4000, watts));
+                }
+            }
+            // In momentary it has none.
+            let mut board = feeding(6000);
+            assert_eq!(event(&mut board, &at(60066)), (1, 6000, 5900));
+            assert_eq!(event(&mut board, &[249, 1000, 1000, between, 1, 10000, 10000]), (0, 0, 0));
+            assert_eq!(event(&mut board, &at(59934)), (2, 0, 100));
+        }
+    }
+
+    #[test]
+    fn events_in_every_status() {
+        // Beside 60066: entering, continuous, mandatory, momentary below and above, cease; the
+        // mandatory one has a mean of 9599, where vars 1474 leave 9890.
+        let at_volts = |code: u32, frequency: u32| [code, 1000, 1000, frequency, 1, 10000, 10000];
+        let rows = [
+            (1000, 50, ENTERING, 5900), (1000, 100, CONTINUOUS, 5900), (774, 50, MANDATORY, 5900),
+            (774, 100, MANDATORY, 5900), (249, 100, MOMENTARY, 0), (1211, 100, MOMENTARY, 0),
+            (1441, 50, CEASE, 0),
+        ];
+        for (code, ramp, status, watts) in rows {
+            for before in ENTERING..=CEASE {
+                // It begins there.
+                let lent = Board { status: before, watts: 6000, ..in_service(ramp) };
+                let mut board = lent;
+                assert_eq!(event(&mut board, &at_volts(code, 60066)), (1, 6000, watts));
+                assert_eq!(board.status, status);
+                // It goes on there, and through it.
+                let mut board = lent;
+                assert_eq!(event(&mut board, &at(60096)), (1, 6000, 5800));
+                for _ in 0..10 {
+                    assert_eq!(event(&mut board, &at_volts(code, 60066)), (1, 6000, watts));
+                }
+                let recovered = if watts == 0 { 250 } else { 5800 };
+                assert_eq!(event(&mut board, &at(60096)), (1, 6000, recovered));
+                // It ends there.
+                let between = event(&mut board, &at_volts(code, 60036));
+                assert_eq!((between.0, between.1), (0, 0));
+                // A jump there holds the watts before it.
+                let mut board = Board { side: 2, held: 1, ..lent };
+                assert_eq!(event(&mut board, &at_volts(code, 60066)), (1, 6000, watts));
+            }
+        }
+        // By frequency: mandatory 61201 and 62000, cease beyond, each side.
+        let mut board = feeding(9000);
+        let steps = [
+            (61200, CONTINUOUS, (1, 9000, 5120)), (61201, MANDATORY, (1, 9000, 5117)),
+            (62000, MANDATORY, (1, 9000, 2454)), (62001, CEASE, (1, 9000, 0)),
+            (62000, MANDATORY, (1, 9000, 250)), (57000, MANDATORY, (2, 250, 500)),
+            (56999, CEASE, (2, 250, 0)), (58799, MANDATORY, (2, 250, 250)),
+            (58800, CONTINUOUS, (2, 250, 500)), (60000, CONTINUOUS, (0, 0, 750)),
+        ];
+        for (frequency, status, shown) in steps {
+            assert_eq!(event(&mut board, &at(frequency)), shown, "{}", frequency);
+            assert_eq!(board.status, status);
+        }
+    }
+
+    #[test]
+    fn recovery_in_an_event() {
+        // 6000 held; cease in the event. The watts come back up to the droop's, 5900.
+        for stop in [LOW_DIP, HIGH_SWELL, TOO_HIGH] {
+            let mut sample = stop;
+            sample[3] = 60066;
+            let mut board = feeding(6000);
+            assert_eq!(event(&mut board, &at(60066)), (1, 6000, 5900));
+            assert_eq!(event(&mut board, &sample), (1, 6000, 0));
+            for k in 1..=45 {
+                let (report, found) = imaged(&mut board, &quick_settings(), &at(60066));
+                let watts = (250 * k.min(40)).min(5900);
+                assert_eq!((report.side, report.held, report.watts), (1, 6000, watts));
+                // 23 x 250 = 5750, 24 x 250 = 6000.
+                let by = if k < 24 { WATTS_BY_RECOVERY } else { WATTS_BY_DROOP };
+                assert_eq!(found, rules(STATUS_BY_LOWEST, 0, by));
+            }
+        }
+    }
+
+    #[test]
+    fn lent_watts_begin_an_event() {
+        // Above 10000 they are read as 10000, and no step need have written them: with a ramp of
+        // 0, in momentary or cease, with what is available far below.
+        let rows = [
+            (0, 0), (1, 1), (5000, 5000), (9999, 9999), (10000, 10000), (10001, 10000),
+            (10003, 10000), (20000, 10000), (32768, 10000), (65535, 10000),
+        ];
+        for (watts, held) in rows {
+            for status in ENTERING..=CEASE {
+                for ramp in [0, 50, u32::MAX] {
+                    let lent = Board { status, watts, ..in_service(ramp) };
+                    for frequency in [58800, 59963, 60037, 61200, 62000] {
+                        let (side, _) = beyond(frequency);
+                        let asked = drooped(held, frequency, 10000) as u16;
+                        let shown = event(&mut lent.clone(), &at(frequency));
+                        assert_eq!(shown, (side, held, asked));
+                        let shown = event(&mut lent.clone(), &at_with(frequency, 7, 3));
+                        assert_eq!(shown, (side, held, asked.min(7)));
+                    }
+                    // Without an event they are not read.
+                    let mut board = lent;
+                    assert_eq!(event(&mut board, &at_with(60036, 7, 3)), (0, 0, 3));
+                }
+            }
+        }
+    }
+
+    #[test]
+    fn every_lent_side() {
+        let powers = [
+            (0, 0), (1, 1), (2500, 2500), (10000, 10000), (10001, 10000), (65535, 10000),
+        ];
+        for lent_side in 0..=255 {
+            for (lent_held, held) in powers {
+                for (watts, begun) in [(0, 0), (6000, 6000), (10001, 10000)] {
+                    for status in ENTERING..=CEASE {
+                        let lent = Board { status, ..drooping(watts, lent_side, lent_held) };
+                        for (frequency, side) in [(60037, 1), (61200, 1), (59963, 2), (58800, 2)] {
+                            // It goes on only on the side that was lent.
+                            let held = if lent_side == side { held } else { begun };
+                            let watts = drooped(held, frequency, 10000) as u16;
+                            let shown = event(&mut lent.clone(), &at(frequency));
+                            assert_eq!(shown, (side, held, watts), "{:?}", lent);
+                        }
+                        for frequency in [59964, 60036] {
+                            let shown = event(&mut lent.clone(), &at(frequency));
+                            assert_eq!(shown, (0, 0, 10000), "{:?}", lent);
+                        }
+                    }
+                }
+            }
+        }
+    }
+
+    #[test]
+    fn an_event_lent_in_a_tripped_record() {
+        // Read as none, with a status that is unknown too. What begins at the return holds the
+        // watts that the record shows.
+        for status in [0].into_iter().chain(6..=255) {
+            for side in [0, 1, 2, 3, 255] {
+                for held in [0, 5000, 65535] {
+                    for (watts, begun) in [(0, 0), (6000, 6000), (10001, 10000), (65535, 10000)] {
+                        let lent = Board { status, ..drooping(watts, side, held) };
+                        for (frequency, now) in [(60037, 1), (60100, 1), (59963, 2), (59500, 2)] {
+                            let mut board = lent;
+                            let asked = drooped(begun, frequency, 10000) as u16;
+                            let shown = event(&mut board, &at(frequency));
+                            assert_eq!(shown, (now, begun, asked), "{:?}", lent);
+                            assert_eq!((board.status, board.ramp), (ENTERING, 0));
+                        }
+                        // Between the points, and where it stays tripped.
+                        assert_eq!(event(&mut lent.clone(), &NORMAL), (0, 0, 0));
+                        for sample in [at(61200), at(58800), NO_PERMISSION, FAR_ABOVE] {
+                            let mut board = lent;
+                            assert_eq!(event(&mut board, &sample), (0, 0, 0));
+                            assert_eq!((board.status, board.recovery), (TRIPPED, 40));
+                        }
+                    }
+                }
+            }
+        }
+    }
+
+    /// "hertz" as wide as its row lets it be.
+    fn wide_return() -> Settings {
+        Settings { hertz: Range { low: 59000, high: 61000 }, ..quick_settings() }
+    }
+
+    #[test]
+    fn an_event_begins_at_the_return() {
+        // Fresh, nothing is held. Below, 59000 is worth 3213 at once, though the share is 0; above,
+        // nothing comes until the event ends.
+        let settings = wide_return();
+        assert_eq!(check_settings(&settings), Ok(()));
+        let rows = [
+            (59000, (2, 0, 3213)), (59500, (2, 0, 1546)), (59963, (2, 0, 3)), (59964, (0, 0, 0)),
+            (60036, (0, 0, 0)), (60037, (1, 0, 0)), (61000, (1, 0, 0)),
+        ];
+        for (frequency, shown) in rows {
+            let mut board = fresh();
+            let (report, found) = imaged(&mut board, &settings, &at(frequency));
+            assert_eq!((report.side, report.held, report.watts), shown);
+            assert_eq!((report.status, report.share, report.recovery), (ENTERING, 0, 40));
+            let by = if shown.0 == 0 { WATTS_BY_SHARE } else { WATTS_BY_DROOP };
+            assert_eq!(found, rules(STATUS_BY_RETURN, 0, by));
+            // It goes on with nothing held while the ramp grows.
+            for k in 1..=150 {
+                let (report, found) = imaged(&mut board, &settings, &at(frequency));
+                let share = 100 * k.min(100);
+                assert_eq!(report.share, share);
+                if shown.0 == 0 {
+                    assert_eq!((report.side, report.held, report.watts), (0, 0, share));
+                } else {
+                    assert_eq!((report.side, report.held, report.watts), shown);
+                    assert_eq!(found, rules(STATUS_BY_LOWEST, 0, WATTS_BY_DROOP));
+                }
+            }
+            assert_eq!(event_with(&mut board, &settings, &NORMAL), (0, 0, 10000));
+        }
+        // With less available, a limit of 0, or vars that leave less: 841 leaves 8979.
+        assert_eq!(event_with(&mut fresh(), &settings, &at_with(59000, 50, 10000)), (2, 0, 50));
+        assert_eq!(event_with(&mut fresh(), &settings, &at_with(59000, 10000, 0)), (2, 0, 3213));
+        let lent = Board { watts: 9000, ..fresh() };
+        let low = sample_of([841; 3], 59000, 1);
+        assert_eq!(event_with(&mut lent.clone(), &settings, &low), (2, 9000, 8979));
+        // Lent watts of a tripped record.
+        assert_eq!(event_with(&mut lent.clone(), &settings, &at(61000)), (1, 9000, 5787));
+        assert_eq!(event_with(&mut lent.clone(), &settings, &at(59000)), (2, 9000, 10000));
+        // The step before the return is in none.
+        let settings = Settings { wait: 3, ..settings };
+        let mut board = Board { watts: 700, ..fresh() };
+        for _ in 0..2 {
+            assert_eq!(event_with(&mut board, &settings, &at(59000)), (0, 0, 0));
+        }
+        assert_eq!(event_with(&mut board, &settings, &at(59000)), (2, 0, 3213));
+        // A jump right after the return.
+        assert_eq!(event_with(&mut board, &settings, &at(60037)), (1, 3213, 3210));
+    }
+
+    #[test]
+    fn an_event_ends_with_a_trip() {
+        let settings = wide_return();
+        for (frequency, side, watts) in [(60066, 1, 5900), (59934, 2, 6100)] {
+            // Permission goes, in the event.
+            let mut board = feeding(6000);
+            assert_eq!(event_with(&mut board, &settings, &at(frequency)), (side, 6000, watts));
+            let stop = sample_of([1000; 3], frequency, 0);
+            for _ in 0..3 {
+                assert_eq!(event_with(&mut board, &settings, &stop), (0, 0, 0));
+                assert_eq!(board.status, TRIPPED);
+            }
+            // Back on the same side, with nothing held, and then on the other: 30 are worth 100.
+            let (same, other) = if side == 1 { (0, 100) } else { (100, 0) };
+            let mut again = board;
+            assert_eq!(event_with(&mut again, &settings, &at(frequency)), (side, 0, same));
+            assert_eq!(again.status, ENTERING);
+            assert_eq!(event_with(&mut again, &settings, &at(frequency)), (side, 0, same));
+            let across = 120000 - frequency;
+            assert_eq!(event_with(&mut board, &settings, &at(across)), (3 - side, 0, other));
+        }
+        // A limit runs out, in the event: of2 after 16 steps at 61900, worth 6213, and uf2 at
+        // 56900, where there is no output before it.
+        let mut settings = wide_return();
+        settings.trips[7].limit = 61800;
+        settings.trips[5].limit = 57000;
+        for (frequency, side, watts) in [(61900, 1, 2787), (56900, 2, 0)] {
+            let mut board = feeding(9000);
+            for _ in 1..=15 {
+                let shown = event_with(&mut board, &settings, &at(frequency));
+                assert_eq!(shown, (side, 9000, watts));
+            }
+            for _ in 16..20 {
+                assert_eq!(event_with(&mut board, &settings, &at(frequency)), (0, 0, 0));
+                assert_eq!((board.status, board.recovery), (TRIPPED, 40));
+            }
+            let mut other = board;
+            assert_eq!(event_with(&mut board, &settings, &at(60066)), (1, 0, 0));
+            assert_eq!(event_with(&mut other, &settings, &at(59934)), (2, 0, 100));
+        }
+        // By voltage too.
+        let mut board = drooping(5900, 1, 6000);
+        board.counters[3] = 15;
+        let swell = [1441, 1000, 1000, 60066, 1, 10000, 10000];
+        assert_eq!(event(&mut board, &swell), (0, 0, 0));
+        assert_eq!(board.status, TRIPPED);
+    }
+
+    #[test]
+    fn a_refused_sample_leaves_the_event() {
+        let flat = Settings { ramp: 0, ..quick_settings() };
+        let mut board = feeding(6000);
+        let samples =
+            [at(60066), at(60096), at(59934), NORMAL, at(59934), at_with(60037, 50, 0), at(60037)];
+        let shown = [
+            (1, 6000, 5900), (1, 6000, 5800), (2, 5800, 5900), (0, 0, 10000), (2, 10000, 10000),
+            (1, 10000, 50), (1, 10000, 9997),
+        ];
+        for (sample, shown) in samples.iter().zip(shown) {
+            let before = board;
+            let image = imaged_bytes(&before);
+            for wrong in [[4096, 0, 0, 59000, 1, 0, 0], [0, 0, 0, 80001, 1, 0, 0]] {
+                assert!(step(&mut board, &quick_settings(), &wrong).is_err());
+            }
+            for wrong in [at_with(59000, 10001, 0), at_with(61000, 0, 10001)] {
+                assert_eq!(step_explained(&mut board, &quick_settings(), &wrong), Err(7));
+            }
+            assert_eq!(step(&mut board, &flat, &at(59000)), Err(2));
+            assert_eq!(step(&mut board, &quick_settings(), &[]), Err(8));
+            assert_eq!((board, imaged_bytes(&board)), (before, image));
+            assert_eq!(event(&mut board, sample), shown);
+        }
+    }
+
+    #[test]
+    fn images_of_events() {
+        // 300 held, 3 taken away, the ramp full; then 5900 held and 9880 added.
+        let mut board = feeding(300);
+        event(&mut board, &at(60037));
+        let counters = "00000000".repeat(8);
+        let high = format!("02{counters}00000001000000640129000028{}", "01012c");
+        assert_eq!(hex(&imaged_bytes(&board)[..49]), high);
+        assert_eq!(saved_and_carried(&board), 11);
+        board.watts = 5900;
+        event(&mut board, &at(57000));
+        let counters = "00000000".repeat(4) + "00000001" + &"00000000".repeat(3);
+        let low = format!("03{counters}00000000000000642710000028{}", "02170c");
+        assert_eq!(hex(&imaged_bytes(&board)[..49]), low);
+        assert_eq!(saved_and_carried(&board), 11);
+        // Nothing held is an event all the same.
+        let mut board = fresh();
+        event(&mut board, &at(60037));
+        assert_eq!(imaged_bytes(&board)[45..49], [40, 1, 0, 0]);
+        assert_eq!(saved_and_carried(&board), 11);
+        // It can go back once the event has ended, by the frequency or by a trip.
+        let mut ended = board;
+        event(&mut ended, &at(60036));
+        assert_eq!(saved_and_carried(&ended), 0);
+        event(&mut board, &sample_of([1000; 3], 60037, 0));
+        assert_eq!(saved_and_carried(&board), 0);
+        assert_eq!(imaged_bytes(&board)[45..49], [40, 0, 0, 0]);
+    }
+
+    /// An event with four limits, in the order of their rules: those chosen 5000, the others a
+    /// little more or, if `far`, much. The droop's is met by the held power or, on the low side,
+    /// by what is available. Gives settings, record and sample.
+    fn four_limits(
+        chosen: u32, far: bool, (frequency, exact): (u32, u16), lent: bool,
+    ) -> (Settings, Board, [u32; 7]) {
+        let pick = |i: u32, exact: u32, near: u32, top: u32| match (chosen >> i & 1, far) {
+            (1, _) => exact,
+            (_, false) => near,
+            (_, true) => top,
+        };
+        let watt = pick(1, 5000, 5001, 10000) as i32;
+        let vars = pick(2, 8660, 8659, 0) as i32; // leave 5000, 5002 or 10000
+        let mut settings = quick_settings();
+        settings.watt = settings.watt.map(|point| Point { power: watt, ..point });
+        settings.var = settings.var.map(|point| Point { power: -vars, ..point });
+        let recovery = pick(3, 20, 21, 40) as u8 - 1;
+        // 10000 held are more than is meant, and what is available makes it less.
+        let by_available = exact == 10000;
+        let available = if by_available { pick(0, 5000, 5001, 10000) } else { 10000 };
+        let more = exact.saturating_add(1).min(10000);
+        let held = pick(0, exact.into(), more.into(), 10000) as u16;
+        let (side, _) = beyond(frequency);
+        // Already in it, or about to begin.
+        let event = if lent { drooping(1, side, held) } else { feeding(held) };
+        let board = Board { recovery, ..event };
+        (settings, board, at_with(frequency, available, 10000))
+    }
+
+    #[test]
+    fn the_first_of_four_limits_that_equals_the_least() {
+        // Frequencies, with the held power that the droop makes 5000.
+        let hertz = [
+            (60037, 5003), (60066, 5100), (61200, 8880), (61201, 8883), (59963, 4997),
+            (59934, 4900), (58800, 1120), (58799, 1117), (57000, 10000), (58800, 10000),
+        ];
+        let names = [WATTS_BY_DROOP, WATTS_BY_CURVE, WATTS_BY_NAMEPLATE, WATTS_BY_RECOVERY];
+        for chosen in 1..16u32 {
+            for far in [false, true] {
+                for pair in hertz {
+                    for lent in [false, true] {
+                        let (settings, lent, sample) = four_limits(chosen, far, pair, lent);
+                        let mut board = lent;
+                        let (report, found) = explained(&mut board, &settings, &sample);
+                        assert_eq!(report.watts, 5000, "{:04b} {:?}", chosen, pair);
+                        let first = names[chosen.trailing_zeros() as usize];
+                        let cause = match report.status {
+                            MANDATORY => STATUS_BY_FREQUENCY,
+                            _ => STATUS_BY_LOWEST,
+                        };
+                        assert_eq!(found, rules(cause, 0, first), "{:04b} {:?}", chosen, pair);
+                        // Limit and share are as good as none, whether they lie below, at the
+                        // watts or above.
+                        for (limit, ramp) in [(0, 0), (5000, 49), (5000, 50), (4999, 100), (1, 3)] {
+                            let mut board = Board { ramp, ..lent };
+                            let mut sample = sample;
+                            sample[6] = limit;
+                            let (other, found) = explained(&mut board, &settings, &sample);
+                            assert_eq!(other.watts, 5000);
+                            assert_eq!(found, rules(cause, 0, first));
+                        }
+                    }
+                }
+            }
+        }
+    }
+
+    #[test]
+    fn rules_in_and_out_of_an_event() {
+        // What is available keeps the droop down: the droop is named, at its power and below it.
+        for available in [0, 1, 4999, 5000, 5897, 5900] {
+            let (report, found) =
+                explained(&mut feeding(6000), &quick_settings(), &at_with(60066, available, 0));
+            assert_eq!((u32::from(report.watts), found.watts), (available, WATTS_BY_DROOP));
+        }
+        // All are 10000: the droop is the first.
+        let (report, found) = explained(&mut feeding(10000), &quick_settings(), &at(59963));
+        assert_eq!((report.watts, found.watts), (10000, WATTS_BY_DROOP));
+        // On the points it is no rule, whatever event the record tells of.
+        for frequency in [59964, 60000, 60036] {
+            for side in [0, 1, 2, 3] {
+                for (available, limit, ramp, by) in [
+                    (300, 400, 50, WATTS_BY_AVAILABLE), (400, 300, 50, WATTS_BY_OPERATOR),
+                    (10000, 10000, 2, WATTS_BY_SHARE), (10000, 10000, 100, WATTS_BY_AVAILABLE),
+                ] {
+                    let mut board = Board { ramp, ..drooping(300, side, 300) };
+                    let sample = at_with(frequency, available, limit);
+                    let (report, found) = explained(&mut board, &quick_settings(), &sample);
+                    assert_eq!((report.side, report.held), (0, 0));
+                    assert_eq!(found, rules(STATUS_BY_LOWEST, 0, by));
+                }
+            }
+        }
+        // No output: the status is the rule, in an event as elsewhere.
+        for frequency in [58800, 59963, 60037, 61200] {
+            let stops = [
+                (249, MOMENTARY, STATUS_BY_LOWEST), (1211, MOMENTARY, STATUS_BY_HIGHEST),
+                (1441, CEASE, STATUS_BY_HIGHEST),
+            ];
+            for (code, status, cause) in stops {
+                let sample = [code, 1000, 1000, frequency, 1, 10000, 10000];
+                let expected = (status, rules(cause, 0, WATTS_BY_STATUS));
+                assert_eq!(quickly(&mut feeding(6000), &sample), expected);
+                assert_eq!(quickly(&mut feeding(0), &sample), expected);
+            }
+            let sample = sample_of([1000; 3], frequency, 0);
+            let expected = (TRIPPED, rules(STATUS_BY_PERMISSION, 0, WATTS_BY_STATUS));
+            assert_eq!(quickly(&mut drooping(5900, 1, 6000), &sample), expected);
+        }
+        // Watts of 0 with output: the droop's, even where the watt curve or vars leave none.
+        let quick = quick_settings();
+        let no_watt =
+            Settings { watt: quick.watt.map(|point| Point { power: 0, ..point }), ..quick };
+        for (settings, held, by) in [
+            (quick, 3, WATTS_BY_DROOP), (no_watt, 3, WATTS_BY_DROOP), (no_watt, 4, WATTS_BY_CURVE),
+        ] {
+            let (report, found) = explained(&mut feeding(held), &settings, &at(60037));
+            assert_eq!((report.watts, found), (0, rules(STATUS_BY_LOWEST, 0, by)));
+        }
+    }
+
+    #[test]
+    fn an_event_in_the_program() {
+        let samples = "\
+(at (1000 1000 1000) 60000 1 10000 10000)
+(at (1000 1000 1000) 60000 1 10000 10000)
+(at (1000 1000 1000) 60036 1 10000 10000)
+(at (1000 1000 1000) 60037 1 10000 10000)
+(at (1000 1000 1000) 60040 1 10000 10000)
+(at (1000 1000 1000) 60101 1 10000 10000)
+(at (1000 1000 1000) 80001 1 10000 10000)
+(at (1000 1000 1000) 59963 1 10000 10000)
+(at (1000 1000 1000) 59500 1 10000 10000)
+(at (1000 1000 1000) 59500 1 1000 5)
+(at (1441 1000 1000) 59500 1 10000 10000)
+(at (1000 1000 1000) 59500 1 10000 10000)
+(at (1000 1000 1000) 58799 1 10000 10000)
+(at (1000 1000 1000) 59964 1 10000 300)
+(at (1000 1000 1000) 60099 1 10000 10000)
+(at (1000 1000 1000) 60099 0 10000 10000)
+(at (1000 1000 1000) 59934 1 10000 10000)
+(at (841 841 841) 59934 1 10000 10000)
+";
+        let expected = "\
+(report entering 000000001 0 40 0 0 0 0)
+(report entering 000000001 100 40 0 0 100 0)
+(report entering 000000001 200 40 0 0 200 0)
+(report entering 000000001 300 40 1 200 197 0)
+(report entering 000000001 400 40 1 200 187 0)
+(report entering 000000000 500 40 1 200 0 0)
+(refused 5 20)
+(report entering 000000001 600 40 2 0 3 0)
+(report entering 000000001 700 40 2 0 1546 0)
+(report entering 000000001 800 40 2 0 1000 0)
+(report cease 000000000 800 0 2 0 0 0)
+(report entering 000000001 900 1 2 0 250 0)
+(report mandatory 000000000 900 2 2 0 500 0)
+(report entering 000000001 1000 3 0 0 300 0)
+(report entering 000000001 1100 4 1 300 90 0)
+(report tripped 000000000 0 40 0 0 0 0)
+(report entering 000000001 0 40 2 0 100 0)
+(report entering 000000001 100 40 2 0 100 4400)
+";
+        assert_eq!(after_quick_sheet(samples), expected);
+        // Of six numbers, side and held power are the third and the fourth.
+        let report = Report {
+            status: 3, bits: [true; 9], share: 1, recovery: 2, side: 3, held: 4, watts: 5, vars: -6,
+        };
+        assert_eq!(report_line(&report), "(report mandatory 111111111 1 2 3 4 5 -6)\n");
+        assert_eq!(report_words(&report), "report 3 111111111 1 2 3 4 5 -6");
+    }
+
+    /// The reports of a list of accepted samples, from the sheet and the list alone: whatever a
+    /// step needs of those before it is looked up in the list and in their reports, anew each
+    /// time and in no record.
+    fn reports_of(settings: &Settings, samples: &[[u32; 7]]) -> Vec<Report> {
+        // How many samples up to and with the n-th, without a gap, have something.
+        let run = |n: usize, has: &dyn Fn(&[u32; 7]) -> bool| {
+            samples[..=n].iter().rev().take_while(|sample| has(sample)).count() as u32
+        };
+        let least = |s: &[u32; 7]| voltage(s[0]).min(voltage(s[1])).min(voltage(s[2]));
+        let most = |s: &[u32; 7]| voltage(s[0]).max(voltage(s[1])).max(voltage(s[2]));
+        let band = |s: &[u32; 7]| {
+            let volts = band_of_voltage(least(s)).max(band_of_voltage(most(s)));
+            volts.max(band_of_frequency(s[3]))
+        };
+        let mut reports: Vec<Report> = Vec::new();
+        for n in 0..samples.len() {
+            let now = samples[n];
+            let mut bits = [false; 9];
+            for (i, Trip { limit, time }) in settings.trips.into_iter().enumerate() {
+                let broken = |s: &[u32; 7]| match i {
+                    0 | 1 => least(s) < limit,
+                    2 | 3 => most(s) > limit,
+                    4 | 5 => s[3] < limit,
+                    _ => s[3] > limit,
+                };
+                bits[i] = run(n, &broken) >= time;
+            }
+            let within = |s: &[u32; 7]| {
+                s[4] == 1
+                    && least(s) >= settings.volts.low
+                    && most(s) <= settings.volts.high
+                    && (settings.hertz.low..=settings.hertz.high).contains(&s[3])
+            };
+            bits[8] = run(n, &within) >= settings.wait.max(1);
+
+            let served = n > 0 && reports[n - 1].status != TRIPPED;
+            let serves = match served {
+                true => now[4] == 1 && !bits[..8].contains(&true),
+                false => bits[8],
+            };
+            if !serves {
+                reports.push(Report { bits, ..fresh_report() });
+                continue;
+            }
+            // The service began right after the last tripped report; what has happened since.
+            let tripped = reports.iter().rposition(|report| report.status == TRIPPED);
+            let returned = tripped.map_or(0, |at| at + 1);
+            let since = &samples[returned + 1..n + 1];
+            let climbs = since.iter().filter(|s| band(s) == Band::Continuous).count() as u32;
+            let ramp = climbs.min(settings.ramp);
+            let share = (10000 * u64::from(ramp) / u64::from(settings.ramp)) as u16;
+            let stopped = since.iter().rev().position(|s| band(s) >= Band::Momentary);
+            let recovery = stopped.map_or(40, |steps| steps.min(40)) as u8;
+            let status = match band(&now) {
+                Band::Continuous if ramp < settings.ramp => ENTERING,
+                Band::Continuous => CONTINUOUS,
+                Band::Mandatory => MANDATORY,
+                Band::Momentary => MOMENTARY,
+                Band::Cease => CEASE,
+            };
+            // The event: back through this service as long as the side is the same.
+            let (side, _) = beyond(now[3]);
+            let event = samples[returned..=n].iter().rev();
+            let steps = event.take_while(|s| beyond(s[3]).0 == side).count();
+            let held = match n + 1 - steps {
+                _ if side == 0 => 0,
+                0 => 0,
+                first => reports[first - 1].watts,
+            };
+            let (mut watts, mut vars) = (0, 0);
+            if [ENTERING, CONTINUOUS, MANDATORY].contains(&status) {
+                let mean = (voltage(now[0]) + voltage(now[1]) + voltage(now[2])) / 3;
+                vars = curve(&settings.var, mean);
+                let recovered = 250 * i64::from(recovery);
+                let mut limits = vec![curve(&settings.watt, mean), watts_beside(vars), recovered];
+                match side {
+                    0 => limits.extend([now[5].into(), now[6].into(), i64::from(share)]),
+                    _ => limits.push(drooped(held, now[3], now[5])),
+                }
+                watts = *limits.iter().min().unwrap();
+            }
+            let (watts, vars) = (watts as u16, vars as i16);
+            reports.push(Report { status, bits, share, recovery, side, held, watts, vars });
+        }
+        reports
+    }
+
+    #[test]
+    fn made_histories_by_another_way() {
+        let mut wide = wide_return();
+        wide.trips[5].limit = 57000;
+        wide.trips[7].limit = 61800;
+        let sheets = [quick_settings(), wide, Settings { wait: 4, ramp: 333, ..wide }];
+        let hertz = [
+            59963, 59964, 60036, 60037, 59962, 60038, 59934, 60066, 59500, 60100, 59000, 61000,
+            58800, 61200, 58799, 61201, 57000, 62000, 56999, 62001, 61900, 40000, 80000,
+        ];
+        let codes = [249, 774, 841, 1180, 1211, 1441];
+        let refused = [[4096; 7], [0; 7], at_with(59000, 10001, 0), [0, 0, 0, 59000, 2, 0, 0]];
+        let mut steps = 0;
+        let mut turned_away = 0;
+        let mut by_side = [[0; 6]; 3]; // by side and status
+        let mut begun = [[0; 3]; 4]; // by side before (3 for tripped) and side
+        let mut tripped_in = [0; 3]; // by side
+        for seed in 0..90 {
+            let settings = sheets[seed as usize % 3];
+            let no_ramp = Settings { ramp: 0, ..settings };
+            let bytes = made(1000 + seed, 10000);
+            let mut bytes = bytes.iter().map(|&byte| u32::from(byte));
+            let mut byte = move || bytes.next().unwrap();
+            let mut board = fresh();
+            let mut accepted: Vec<[u32; 7]> = Vec::new();
+            let mut reports: Vec<Report> = Vec::new();
+            let mut sample = NORMAL;
+            while accepted.len() < 400 {
+                // Some numbers change, the others stay: runs of samples that are much alike.
+                if byte() < 100 {
+                    let near = 59900 + 8 * (byte() % 25);
+                    sample[3] = hertz.get(byte() as usize % 40).copied().unwrap_or(near);
+                }
+                if byte() < 30 {
+                    let code = codes.get(byte() as usize % 12).copied().unwrap_or(1000);
+                    (sample[0], sample[1]) = (code, if byte() < 128 { code } else { 1000 });
+                } else if byte() < 60 {
+                    (sample[0], sample[1]) = (1000, 1000);
+                }
+                if byte() < 60 {
+                    sample[5] = (40 * byte()).min(10000);
+                    sample[6] = (40 * byte()).min(10000);
+                } else if byte() < 60 {
+                    (sample[5], sample[6]) = (10000, 10000);
+                }
+                sample[4] = u32::from(byte() > 3);
+                match byte() {
+                    choice @ 0..=15 => {
+                        let wrong = refused[choice as usize % 4];
+                        assert!(step(&mut board, &settings, &wrong).is_err());
+                        turned_away += 1;
+                    }
+                    16..=20 => {
+                        assert_eq!(step(&mut board, &no_ramp, &sample), Err(2));
+                        turned_away += 1;
+                    }
+                    _ => {
+                        let (report, _) = imaged(&mut board, &settings, &sample);
+                        accepted.push(sample);
+                        reports.push(report);
+                    }
+                }
+            }
+            let expected = reports_of(&settings, &accepted);
+            for n in 0..accepted.len() {
+                assert_eq!(reports[n], expected[n], "seed {} step {} {:?}", seed, n, accepted[n]);
+                let before = if n == 0 { fresh_report() } else { expected[n - 1] };
+                let now = expected[n];
+                by_side[usize::from(now.side)][usize::from(now.status)] += 1;
+                let side = if before.status == TRIPPED { 3 } else { before.side };
+                if now.status == TRIPPED {
+                    tripped_in[usize::from(before.side)] += 1;
+                } else {
+                    begun[usize::from(side)][usize::from(now.side)] += 1;
+                }
+                steps += 1;
+            }
+            // The last report of every list that is a part of it is the same.
+            for n in [0, 1, 50, 399] {
+                assert_eq!(reports_of(&settings, &accepted[..n]).last(), expected[..n].last());
+            }
+        }
+        assert!(steps == 36000 && turned_away > 2000);
+        assert!(by_side[1..].iter().all(|statuses| statuses[1..].iter().all(|&times| times > 100)));
+        assert!(by_side[1][0] == 0 && by_side[2][0] == 0);
+        assert!(begun.iter().flatten().all(|&times| times > 100), "{:?}", begun);
+        assert!(tripped_in[1] > 50 && tripped_in[2] > 50, "{:?}", tripped_in);
+    }
+
     // --- calls ---
 
     #[test]
@@ -4538,19 +5807,19 @@ mod tests {
         let settings: String =
             quick_settings().pairs().iter().map(|(a, b)| format!(" {} {}", a, b)).collect();
         let input = format!(
-            "settings{}\nstep 1000 1000 1000 60000 1 10000 10000\nstep\nsave 46\nsave 47\nsave 45\n\
-             save 0\nrecord 255 1 2 3 4 5 6 7 8 4294967295 9 65535 -32768 254\nsave 46\nfresh\n\
-             step 4096 0 0 60000 1 0 0\n",
+            "settings{}\nstep 1000 1000 1000 60000 1 10000 10000\nstep\nsave 49\nsave 50\nsave 48\n\
+             save 0\nrecord 255 1 2 3 4 5 6 7 8 4294967295 9 65535 -32768 254 253 65534\nsave 49\n\
+             fresh\nstep 4096 0 0 60000 1 0 0\n",
             settings
         );
-        let entered = format!("01{}{}", "00000000".repeat(8), "00000001000000000000000028");
+        let entered = format!("01{}{}", "00000000".repeat(8), "00000001000000000000000028000000");
         let zero = "00".repeat(45);
-        let untouched = "aa".repeat(45);
+        let untouched = "aa".repeat(48);
         let expected = format!(
-            "ok\nreport 1 000000001 0 40 0 0 {entered}\nrefused 8 {entered}\nsaved {entered}\n\
+            "ok\nreport 1 000000001 0 40 0 0 0 0 {entered}\nrefused 8 {entered}\nsaved {entered}\n\
              saved {entered}aa\nrefused 9 {untouched}\nrefused 9 \nok\n\
              saved ff0000000100000002000000030000000400000005000000060000000700000008\
-             ffffffff00000009ffff8000fe\nok\nrefused 4 {zero}28\n"
+             ffffffff00000009ffff8000fefdfffe\nok\nrefused 4 {zero}28000000\n"
         );
         let mut output = Vec::new();
         run_calls(input.as_bytes(), &mut output).unwrap();
@@ -4569,28 +5838,40 @@ mod tests {
                    ffffffff0a0b0c0dfedcfffe";
         let aa = |size: usize| "aa".repeat(size);
         let rows = [
-            (format!("forward 46 {old}"), format!("carried {old}28")),
-            (format!("forward 48 {old}"), format!("carried {old}28aaaa")),
+            (format!("forward 49 {old}"), format!("carried {old}28000000")),
+            (format!("forward 51 {old}"), format!("carried {old}28000000aaaa")),
+            (format!("forward 48 {old}"), format!("refused 9 {}", aa(48))),
+            (format!("forward 46 {old}"), format!("refused 9 {}", aa(46))),
             (format!("forward 45 {old}"), format!("refused 9 {}", aa(45))),
             (format!("forward 0 {old}"), "refused 9 ".to_string()),
-            (format!("forward 46 {old}28"), format!("refused 10 {}", aa(46))),
-            (format!("forward 46 {}", &old[2..]), format!("refused 10 {}", aa(46))),
+            (format!("forward 49 {old}28"), format!("refused 10 {}", aa(49))),
+            (format!("forward 49 {old}28000000"), format!("refused 10 {}", aa(49))),
+            (format!("forward 49 {}", &old[2..]), format!("refused 10 {}", aa(49))),
             (format!("forward 45 {old}28"), format!("refused 10 {}", aa(45))),
-            ("forward 46".to_string(), format!("refused 10 {}", aa(46))),
+            (format!("forward 45 {old}28000000"), format!("refused 10 {}", aa(45))),
+            ("forward 49".to_string(), format!("refused 10 {}", aa(49))),
             ("forward 1".to_string(), "refused 10 aa".to_string()),
             ("forward 0".to_string(), "refused 10 ".to_string()),
-            (format!("back 45 {old}28"), format!("carried {old}")),
-            (format!("back 48 {old}28"), format!("carried {old}aaaaaa")),
-            (format!("back 44 {old}28"), format!("refused 9 {}", aa(44))),
-            (format!("back 0 {old}28"), "refused 9 ".to_string()),
-            (format!("back 45 {old}27"), format!("refused 11 {}", aa(45))),
-            (format!("back 46 {old}29"), format!("refused 11 {}", aa(46))),
-            (format!("back 44 {old}ff"), format!("refused 11 {}", aa(44))),
-            (format!("back 0 {old}00"), "refused 11 ".to_string()),
+            (format!("back 45 {old}28000000"), format!("carried {old}")),
+            (format!("back 48 {old}28000000"), format!("carried {old}aaaaaa")),
+            (format!("back 44 {old}28000000"), format!("refused 9 {}", aa(44))),
+            (format!("back 0 {old}28000000"), "refused 9 ".to_string()),
+            (format!("back 45 {old}27000000"), format!("refused 11 {}", aa(45))),
+            (format!("back 49 {old}29000000"), format!("refused 11 {}", aa(49))),
+            (format!("back 45 {old}28010000"), format!("refused 11 {}", aa(45))),
+            (format!("back 45 {old}28030000"), format!("refused 11 {}", aa(45))),
+            (format!("back 45 {old}28000100"), format!("refused 11 {}", aa(45))),
+            (format!("back 45 {old}28000001"), format!("refused 11 {}", aa(45))),
+            (format!("back 44 {old}28022710"), format!("refused 11 {}", aa(44))),
+            (format!("back 44 {old}ff000000"), format!("refused 11 {}", aa(44))),
+            (format!("back 0 {old}00000000"), "refused 11 ".to_string()),
             (format!("back 45 {old}"), format!("refused 10 {}", aa(45))),
+            (format!("back 45 {old}28"), format!("refused 10 {}", aa(45))),
+            (format!("back 45 {old}280000"), format!("refused 10 {}", aa(45))),
+            (format!("back 45 {old}2800000000"), format!("refused 10 {}", aa(45))),
             (format!("back 44 {old}2828"), format!("refused 10 {}", aa(44))),
             (format!("back 46 {old}0000"), format!("refused 10 {}", aa(46))),
-            ("back 46".to_string(), format!("refused 10 {}", aa(46))),
+            ("back 49".to_string(), format!("refused 10 {}", aa(49))),
             ("back 1".to_string(), "refused 10 aa".to_string()),
             ("back 0".to_string(), "refused 10 ".to_string()),
         ];
@@ -4598,11 +5879,11 @@ mod tests {
             assert_eq!(answers(&format!("{call}\n")), format!("{answer}\n"), "{}", call);
         }
         // All in a row, the record as it was before and after.
-        let record = "record 3 1 2 3 4 5 6 7 8 9 10 11 -12 13\nsave 46\n";
+        let record = "record 3 1 2 3 4 5 6 7 8 9 10 11 -12 13 14 15\nsave 49\n";
         let mut calls = record.to_string();
         let mut expected = answers(record);
         for (call, answer) in &rows {
-            calls += &format!("{call}\nsave 46\n");
+            calls += &format!("{call}\nsave 49\n");
             expected += &format!("{answer}\n{}\n", answers(record).lines().nth(1).unwrap());
         }
         assert_eq!(answers(&calls), expected);
@@ -4613,22 +5894,22 @@ mod tests {
         for length in 0..=60 {
             for recovery in [39, 40] {
                 let mut source = made(length as u64, length);
-                if let Some(last) = source.last_mut() {
-                    *last = recovery;
+                if length >= 4 {
+                    source[length - 4..].copy_from_slice(&[recovery, 0, 0, 0]);
                 }
                 let word = hex(&source);
                 for size in 0..=60 {
                     let forward = match (length, size) {
-                        (45, 46..) => format!("carried {}28{}", word, "aa".repeat(size - 46)),
+                        (45, 49..) => format!("carried {}28000000{}", word, "aa".repeat(size - 49)),
                         (45, _) => format!("refused 9 {}", "aa".repeat(size)),
                         _ => format!("refused 10 {}", "aa".repeat(size)),
                     };
                     let back = match (length, recovery, size) {
-                        (46, 40, 45..) => {
+                        (49, 40, 45..) => {
                             format!("carried {}{}", &word[..90], "aa".repeat(size - 45))
                         }
-                        (46, 40, _) => format!("refused 9 {}", "aa".repeat(size)),
-                        (46, _, _) => format!("refused 11 {}", "aa".repeat(size)),
+                        (49, 40, _) => format!("refused 9 {}", "aa".repeat(size)),
+                        (49, _, _) => format!("refused 11 {}", "aa".repeat(size)),
                         _ => format!("refused 10 {}", "aa".repeat(size)),
                     };
                     let calls = format!("forward {size} {word}\nback {size} {word}\n");
@@ -4642,8 +5923,8 @@ mod tests {
     fn calls_that_carry_every_byte() {
         for begin in 0..=255u8 {
             let old: String = (0..45).map(|i| format!("{:02x}", begin.wrapping_add(i))).collect();
-            let calls = format!("forward 46 {old}\nback 45 {old}28\n");
-            assert_eq!(answers(&calls), format!("carried {old}28\ncarried {old}\n"));
+            let calls = format!("forward 49 {old}\nback 45 {old}28000000\n");
+            assert_eq!(answers(&calls), format!("carried {old}28000000\ncarried {old}\n"));
         }
     }
 
@@ -4656,22 +5937,24 @@ mod tests {
              explain 1000 1000 1000 60000 1 10000 10000\nrules\n\
              explain 1000 1000 1441 60000 1 10000 10000\nexplain 4096 0 0 60000 1 10000 10000\n\
              explain\nexplain 1000 1000 1000 60000 0 10000 10000\nfresh\nrules\n\
-             record 5 0 0 1299 15 0 0 0 0 0 100 0 0 7\n\
-             explain 1000 1441 1000 60000 1 10000 10000\nsave 46\n"
+             record 5 0 0 1299 15 0 0 0 0 0 100 0 0 7 0 0\n\
+             explain 1000 1441 1000 60000 1 10000 10000\nsave 49\n"
         );
         let counters = "00000000".repeat(8);
-        let entered = format!("01{counters}00000001000000000000000028");
-        let growing = format!("01{counters}00000001000000010064000028");
+        let entered = format!("01{counters}00000001000000000000000028000000");
+        let growing = format!("01{counters}00000001000000010064000028000000");
         let ceased = "05000000000000000000000001000000010000000000000000000000000000000000000000\
-                      00000001".to_string() + "0000000000";
-        let tripped = format!("00{}28", "00".repeat(44));
-        let limited = format!("000000000000000000{:08x}{:08x}{}28", 1300, 16, "00".repeat(28));
+                      00000001".to_string() + "0000000000000000";
+        let tripped = format!("00{}28000000", "00".repeat(44));
+        let limited =
+            format!("000000000000000000{:08x}{:08x}{}28000000", 1300, 16, "00".repeat(28));
         let expected = format!(
-            "rules 3 0 1\nok\nrules 3 0 1\nreport 1 000000001 0 40 0 0 rules 4 0 4 {entered}\n\
-             report 1 000000001 100 40 100 0 rules 5 0 4 {growing}\nrules 3 0 1\n\
-             report 5 000000000 100 0 0 0 rules 6 0 1 {ceased}\nrefused 4 {ceased}\n\
-             refused 8 {ceased}\nreport 0 000000000 0 40 0 0 rules 1 0 1 {tripped}\nok\n\
-             rules 3 0 1\nok\nreport 0 001100000 0 40 0 0 rules 2 3 1 {limited}\nsaved {limited}\n"
+            "rules 3 0 1\nok\nrules 3 0 1\nreport 1 000000001 0 40 0 0 0 0 rules 4 0 4 {entered}\n\
+             report 1 000000001 100 40 0 0 100 0 rules 5 0 4 {growing}\nrules 3 0 1\n\
+             report 5 000000000 100 0 0 0 0 0 rules 6 0 1 {ceased}\nrefused 4 {ceased}\n\
+             refused 8 {ceased}\nreport 0 000000000 0 40 0 0 0 0 rules 1 0 1 {tripped}\nok\n\
+             rules 3 0 1\nok\nreport 0 001100000 0 40 0 0 0 0 rules 2 3 1 {limited}\n\
+             saved {limited}\n"
         );
         assert_eq!(answers(&calls), expected);
     }
@@ -4680,34 +5963,42 @@ mod tests {
     fn calls_that_explain_far_outside() {
         let settings: String =
             quick_settings().pairs().iter().map(|(a, b)| format!(" {} {}", a, b)).collect();
-        let record = "record 2 0 0 0 0 0 0 0 0 1 100 10000 0 40\n";
+        let record = "record 2 0 0 0 0 0 0 0 0 1 100 10000 0 40 0 0\n";
         // The sample; report and rules; the counters that are 1, from 0; in the image ramp,
-        // watts and vars, then recovery.
+        // watts and vars, then recovery, side and held power. At 62000 the droop takes 6546.
         let full = "0000006427100000";
+        let part = "000000640d7e0000";
         let none = "0000006400000000";
         let gone = "0000000000000000";
-        let rows: [(&str, &str, &[usize], &str, u8); 9] = [
-            ("1000 1000 1000 57000 1", "3 000000000 10000 40 10000 0 rules 7 0 2", &[4], full, 40),
-            ("1000 1000 1000 56999 1", "5 000000000 10000 0 0 0 rules 7 0 1", &[4], none, 0),
-            ("1000 1000 1000 62000 1", "3 000000000 10000 40 10000 0 rules 7 0 2", &[6], full, 40),
-            ("1211 1000 1000 56999 1", "5 000000000 10000 0 0 0 rules 7 0 1", &[2, 4], none, 0),
-            ("1441 1000 1000 56999 1", "5 000000000 10000 0 0 0 rules 6 0 1", &[2, 3, 4], none, 0),
-            ("1441 1441 1441 62001 1", "5 000000000 10000 0 0 0 rules 5 0 1", &[2, 3, 6, 7], none, 0),
-            ("1000 1000 1000 40000 1", "5 000000000 10000 0 0 0 rules 7 0 1", &[4, 5], none, 0),
-            ("1000 1000 1000 80000 1", "5 000000000 10000 0 0 0 rules 7 0 1", &[6, 7], none, 0),
-            ("1000 1000 1000 80000 0", "0 000000000 0 40 0 0 rules 1 0 1", &[6, 7], gone, 40),
+        let low = "3 000000000 10000 40 2 10000 10000 0 rules 7 0 8";
+        let high = "3 000000000 10000 40 1 10000 3454 0 rules 7 0 8";
+        let below = "5 000000000 10000 0 2 10000 0 0 rules 7 0 1";
+        let above = "5 000000000 10000 0 1 10000 0 0 rules 7 0 1";
+        let rows: [(&str, &str, &[usize], &str, &str); 9] = [
+            ("1000 1000 1000 57000 1", low, &[4], full, "28022710"),
+            ("1000 1000 1000 56999 1", below, &[4], none, "00022710"),
+            ("1000 1000 1000 62000 1", high, &[6], part, "28012710"),
+            ("1211 1000 1000 56999 1", below, &[2, 4], none, "00022710"),
+            ("1441 1000 1000 56999 1", "5 000000000 10000 0 2 10000 0 0 rules 6 0 1", &[2, 3, 4],
+                none, "00022710"),
+            ("1441 1441 1441 62001 1", "5 000000000 10000 0 1 10000 0 0 rules 5 0 1",
+                &[2, 3, 6, 7], none, "00012710"),
+            ("1000 1000 1000 40000 1", below, &[4, 5], none, "00022710"),
+            ("1000 1000 1000 80000 1", above, &[6, 7], none, "00012710"),
+            ("1000 1000 1000 80000 0", "0 000000000 0 40 0 0 0 0 rules 1 0 1", &[6, 7], gone,
+                "28000000"),
         ];
-        for (sample, words, ones, numbers, recovery) in rows {
+        for (sample, words, ones, numbers, end) in rows {
             let counters: String =
                 (0..9).map(|i| format!("{:08x}", u32::from(ones.contains(&i)))).collect();
-            let image = format!("0{}{counters}{numbers}{recovery:02x}", &words[..1]);
+            let image = format!("0{}{counters}{numbers}{end}", &words[..1]);
             let calls = format!("settings{settings}\n{record}explain {sample} 10000 10000\n");
             let expected = format!("ok\nok\nreport {words} {image}\n");
             assert_eq!(answers(&calls), expected, "{}", sample);
-            // Saved it is the same, and goes back where it has recovered.
-            let calls = format!("{calls}save 46\nback 45 {image}\n");
-            let back = match recovery {
-                40 => format!("carried {}", &image[..90]),
+            // Saved it is the same, and goes back where it has recovered and no event is.
+            let calls = format!("{calls}save 49\nback 45 {image}\n");
+            let back = match end {
+                "28000000" => format!("carried {}", &image[..90]),
                 _ => format!("refused 11 {}", "aa".repeat(45)),
             };
             assert_eq!(answers(&calls), format!("{expected}saved {image}\n{back}\n"));
@@ -4754,13 +6045,13 @@ mod tests {
 
     #[test]
     fn calls_with_long_ramps() {
-        let record = "record 1 0 0 0 0 0 0 0 0 1 59998 9999 0 40\n";
+        let record = "record 1 0 0 0 0 0 0 0 0 1 59998 9999 0 40 0 0\n";
         let image = |status: u8, ramp: u32, watts: u16| {
             let counters = "00000000".repeat(8);
-            format!("{status:02x}{counters}00000001{ramp:08x}{watts:04x}000028")
+            format!("{status:02x}{counters}00000001{ramp:08x}{watts:04x}000028000000")
         };
         let normal = "1000 1000 1000 60000 1 10000 10000";
-        let calls = format!("step {normal}\nexplain {normal}\nstep\nexplain\nsave 46\n");
+        let calls = format!("step {normal}\nexplain {normal}\nstep\nexplain\nsave 49\n");
         let lend = |ramp: u32| {
             let lent = Settings { ramp, ..quick_settings() };
             let words: String =
@@ -4771,8 +6062,8 @@ mod tests {
         let grown = image(1, 59999, 9999);
         let full = image(2, 60000, 10000);
         let accepted = format!(
-            "report 1 000000001 9999 40 9999 0 {grown}\n\
-             report 2 000000001 10000 40 10000 0 rules 5 0 2 {full}\n\
+            "report 1 000000001 9999 40 0 0 9999 0 {grown}\n\
+             report 2 000000001 10000 40 0 0 10000 0 rules 5 0 2 {full}\n\
              refused 8 {full}\nrefused 8 {full}\nsaved {full}\n"
         );
         let refused = format!("refused 2 {held}\n").repeat(4) + &format!("saved {held}\n");
@@ -4785,5 +6076,47 @@ mod tests {
         }
         let input = format!("{}{record}{calls}", lend(60000));
         assert_eq!(answers(&input), format!("ok\nok\n{accepted}"));
+    }
+
+    #[test]
+    fn calls_with_events() {
+        let settings: String =
+            quick_settings().pairs().iter().map(|(a, b)| format!(" {} {}", a, b)).collect();
+        let record = |watts: u16, side: u8, held: u16| {
+            format!("record 2 0 0 0 0 0 0 0 0 1 100 {watts} 0 40 {side} {held}\n")
+        };
+        // Watts, side and held power in hex digits.
+        let image = |watts: &str, event: &str| {
+            format!("02{}0000000100000064{watts}000028{event}", "00000000".repeat(8))
+        };
+        let (high, low) = ("1000 1000 1000 60066 1 10000", "1000 1000 1000 59934 1 10000");
+        // 30 millihertz are worth 100 on either side.
+        let rows = [
+            (record(6000, 0, 0), format!("step {high} 10000"),
+                "report 2 000000001 10000 40 1 6000 5900 0", image("170c", "011770")),
+            (record(6000, 0, 0), format!("explain {high} 0"),
+                "report 2 000000001 10000 40 1 6000 5900 0 rules 5 0 8", image("170c", "011770")),
+            (record(5900, 1, 6000), format!("explain {low} 0"),
+                "report 2 000000001 10000 40 2 5900 6000 0 rules 5 0 8", image("1770", "02170c")),
+            (record(6000, 2, 700), format!("step {low} 10000"),
+                "report 2 000000001 10000 40 2 700 800 0", image("0320", "0202bc")),
+            (record(6000, 2, 65535), format!("explain {low} 10000"),
+                "report 2 000000001 10000 40 2 10000 10000 0 rules 5 0 8", image("2710", "022710")),
+            (record(65535, 255, 700), format!("explain {high} 10000"),
+                "report 2 000000001 10000 40 1 10000 9900 0 rules 5 0 8", image("26ac", "012710")),
+            (record(6000, 1, 700), "explain 1000 1000 1000 60036 1 10000 10000".to_string(),
+                "report 2 000000001 10000 40 0 0 10000 0 rules 5 0 2", image("2710", "000000")),
+            (record(6000, 1, 700), "explain 4096 1000 1000 60066 1 10000 10000".to_string(),
+                "refused 4", image("1770", "0102bc")),
+            (record(6000, 255, 65535), "step".to_string(), "refused 8", image("1770", "ffffff")),
+        ];
+        for (record, call, words, image) in rows {
+            let calls = format!("settings{settings}\n{record}{call}\nsave 49\nsave 48\n");
+            let untouched = "aa".repeat(48);
+            let expected = format!(
+                "ok\nok\n{words} {image}\nsaved {image}\nrefused 9 {untouched}\n"
+            );
+            assert_eq!(answers(&calls), expected, "{}", call);
+        }
     }
 }

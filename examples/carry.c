@@ -1,4 +1,4 @@
-/* Images carried over between the old firmware, from before the recovery count (45 bytes), and this one (46 bytes), as a filter:
+/* Images carried over between the old firmware, from before the recovery count and the droop (45 bytes), and this one (49 bytes), as a filter:
  *
  *     rt staticlib saltdelta
  *     cc examples/carry.c -Iinclude target/staticlib/libsaltdelta.a -o carry

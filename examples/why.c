@@ -18,7 +18,8 @@ static const char *const status_rules[] = {"", "no permission", "limit", "wait n
 
 static const char *const limits[] = {"", "uv1", "uv2", "ov1", "ov2", "uf1", "uf2", "of1", "of2"};
 
-static const char *const watts_rules[] = {"", "status", "available power", "operator's limit", "share", "watt curve", "nameplate", "recovery"};
+static const char *const watts_rules[] = {"", "status", "available power", "operator's limit", "share", "watt curve", "nameplate", "recovery",
+                                          "droop"};
 
 static void say(const saltdelta_explained *e) {
     const char *const rule = e->status_rule == SALTDELTA_STATUS_BY_LIMIT ? limits[e->limit] : status_rules[e->status_rule];

@@ -21,9 +21,9 @@
  *     6  permission not 0 or 1
  *     7  available power or operator's limit above 10000
  *     8  sample not of seven numbers
- *     9  image buffer under 46 bytes; target of an image that is carried over under 46 bytes (forward) or 45 (back)
- *    10  image to be carried over of another length than 45 (forward) or 46 (back)
- *    11  image to be carried back with a recovery count other than 40
+ *     9  image buffer under 49 bytes; target of an image that is carried over under 49 bytes (forward) or 45 (back)
+ *    10  image to be carried over of another length than 45 (forward) or 49 (back)
+ *    11  image to be carried back that does not end with a recovery count of 40, no side and no held power
  *
  * A sheet's lines are checked in order, each for 1, 2, 3; a step for 2 and 3 in sheet order, then for 8, 4, 5, 6, 7; a replay for 2 and 3 in
  * sheet order, then for 9; carrying forward for 10, 9; carrying back for 10, 11, 9. A refused call writes nothing at all: every byte that
@@ -63,7 +63,7 @@ enum {
     SALTDELTA_SAMPLE = 8,
     SALTDELTA_BUFFER = 9,
     SALTDELTA_SOURCE_LENGTH = 10, /* of an image to be carried over */
-    SALTDELTA_ADDED_BYTES = 11    /* the recovery count of an image to be carried back is not 40 */
+    SALTDELTA_ADDED_BYTES = 11    /* an image to be carried back ends otherwise than with recovery 40, no side, no held power */
 };
 
 /* The status of a board. Any other number in a lent record is read as tripped. */
@@ -74,6 +74,13 @@ enum {
     SALTDELTA_MANDATORY = 3,  /* mandatory operation */
     SALTDELTA_MOMENTARY = 4,  /* momentary cessation */
     SALTDELTA_CEASE = 5       /* cease to energize, by voltage or by frequency (spec 6.7, 6.8) */
+};
+
+/* The side of a droop event (spec 6.16). Any other number in a lent record is read as none. */
+enum {
+    SALTDELTA_NO_SIDE = 0,   /* no event: tripped, or 59964 to 60036 mHz */
+    SALTDELTA_HIGH_SIDE = 1, /* in service above 60036 mHz */
+    SALTDELTA_LOW_SIDE = 2   /* in service below 59964 mHz */
 };
 
 /* Places in saltdelta_settings.trip and in saltdelta_board.counters; of the counters the last is the ninth, toward return to service. */
@@ -90,9 +97,9 @@ enum {
 };
 
 /* The image of a record, in bytes (spec 9.1). */
-#define SALTDELTA_IMAGE 46
+#define SALTDELTA_IMAGE 49
 
-/* An image of the old firmware, from before the recovery count: all but the last byte (spec 9.5). */
+/* An image of the old firmware, from before recovery count, side and held power: all but the last four bytes (spec 9.5). */
 #define SALTDELTA_OLD_IMAGE 45
 
 /* A full recovery count: power is back (spec 6.15). */
@@ -128,14 +135,17 @@ typedef struct {
 } saltdelta_settings;
 
 /* The board record, which the caller keeps from step to step. Any numbers may stand in it; spec 5.4 says how they are read: what is above
- * its top as the top, a status without a name as tripped. The recovery count of a tripped board is not looked at. */
+ * its top as the top, a status without a name as tripped, a side without a name as none. Recovery count, side and held power of a tripped
+ * board are not looked at; its watts are, where its return begins an event. */
 typedef struct {
     uint8_t status;
     uint8_t recovery;     /* 0 in momentary cessation and cease, then one more a step up to 40; 40 when tripped, and at a return (spec 6.15) */
+    uint8_t side;         /* SALTDELTA_NO_SIDE .. SALTDELTA_LOW_SIDE: of the droop event that the board is in */
     uint32_t counters[9]; /* for how many steps each limit has been broken, up to its clearing time; then the ninth */
     uint32_t ramp;        /* ramp count */
-    uint16_t watts;
+    uint16_t watts;       /* what an event that the next step begins will hold */
     int16_t vars;
+    uint16_t held;        /* the watts before the event began, up to 10000; 0 without one (spec 6.17) */
 } saltdelta_board;
 
 /* What a step reports. Bit 8 of bits is uv1, bit 7 uv2, and so on in sheet order to bit 1, of2, and bit 0, ready:
@@ -147,6 +157,8 @@ typedef struct {
     uint16_t share;   /* ramp count by ramp length, in ten-thousandths */
     uint16_t watts;
     int16_t vars;
+    uint16_t held;    /* this and the side: the record's after the step */
+    uint8_t side;
 } saltdelta_report;
 
 /* The rule that held a status (spec 8.6). 0 is none of them, and a number keeps its rule in later versions, which may add others. */
@@ -160,7 +172,8 @@ enum {
     SALTDELTA_STATUS_BY_FREQUENCY = 7   /* the frequency does */
 };
 
-/* The rule that held the watts (spec 8.8): the first, in the order of spec 7.5, that leaves what they are. Of these numbers the same holds. */
+/* The rule that held the watts (spec 8.8): the first, in the order of spec 7.5, that leaves what they are. Of these numbers the same holds.
+ * In an event the order is that of spec 7.8: droop comes first, in the place of available power, operator's limit and share, which are then not named. */
 enum {
     SALTDELTA_WATTS_BY_STATUS = 1,    /* a status that gives no power: tripped, momentary cessation, cease to energize */
     SALTDELTA_WATTS_BY_AVAILABLE = 2, /* available power; also where nothing holds the watts down */
@@ -168,7 +181,8 @@ enum {
     SALTDELTA_WATTS_BY_SHARE = 4,     /* the share of the ramp */
     SALTDELTA_WATTS_BY_CURVE = 5,     /* the volt-watt curve */
     SALTDELTA_WATTS_BY_NAMEPLATE = 6, /* the nameplate beside the vars */
-    SALTDELTA_WATTS_BY_RECOVERY = 7   /* the recovery after a cessation */
+    SALTDELTA_WATTS_BY_RECOVERY = 7,  /* the recovery after a cessation */
+    SALTDELTA_WATTS_BY_DROOP = 8      /* the droop, available power within it; in an event alone */
 };
 
 /* A report with the rules that held it. */
@@ -176,7 +190,7 @@ typedef struct {
     saltdelta_report report;
     uint8_t status_rule; /* SALTDELTA_STATUS_BY_PERMISSION .. SALTDELTA_STATUS_BY_FREQUENCY */
     uint8_t limit;       /* by a limit: its place in the sheet, from 1, so that SALTDELTA_UV1 + 1 is uv1's; else 0 */
-    uint8_t watts_rule;  /* SALTDELTA_WATTS_BY_STATUS .. SALTDELTA_WATTS_BY_RECOVERY */
+    uint8_t watts_rule;  /* SALTDELTA_WATTS_BY_STATUS .. SALTDELTA_WATTS_BY_DROOP */
 } saltdelta_explained;
 
 /* What reading a sheet answers. The part handed back is length bytes of the caller's own from start on: the refused line without its
@@ -194,10 +208,10 @@ typedef struct {
     size_t accepted; /* how many of the samples were accepted; 0 when the replay is refused */
 } saltdelta_replayed;
 
-/* A fresh board: tripped, with all counters, ramp count, watts and vars 0, and recovery 40. */
+/* A fresh board: tripped, with all counters, ramp count, watts, vars, side and held power 0, and recovery 40. */
 saltdelta_board saltdelta_fresh(void);
 
-/* The report of a fresh board, before its first sample: tripped, with all bits, share, watts and vars 0, and recovery 40. */
+/* The report of a fresh board, before its first sample: tripped, with all bits, share, watts, vars, side and held power 0, and recovery 40. */
 saltdelta_report saltdelta_fresh_report(void);
 
 /* The same with its rules: the wait and the status. */
@@ -217,21 +231,22 @@ uint32_t saltdelta_step(saltdelta_board *board, const saltdelta_settings *settin
 uint32_t saltdelta_step_explained(saltdelta_board *board, const saltdelta_settings *settings, const uint32_t *sample, size_t count,
                                   saltdelta_explained *explained);
 
-/* Saves the record's image in the first 46 of `length` lent bytes, high byte first: status (1 byte), the nine counters (4 each), ramp
- * count (4), watts (2), vars (2, two's complement), recovery (1), each as it is. The bytes after it are untouched. */
+/* Saves the record's image in the first 49 of `length` lent bytes, high byte first: status (1 byte), the nine counters (4 each), ramp
+ * count (4), watts (2), vars (2, two's complement), recovery (1), side (1), held power (2), each as it is. The bytes after it are untouched. */
 uint32_t saltdelta_save(const saltdelta_board *board, uint8_t *buffer, size_t length);
 
-/* Carries an image of the old firmware over to this one: `source`, 45 bytes, and a recovery count of 40 behind them, in the first 46 of
- * `target_length` lent bytes. The bytes after them are untouched. Source and target do not overlap. */
+/* Carries an image of the old firmware over to this one: `source`, 45 bytes, and behind them a recovery count of 40, no side and no held
+ * power (the bytes 40, 0, 0, 0), in the first 49 of `target_length` lent bytes. The bytes after them are untouched. Source and target do
+ * not overlap. */
 uint32_t saltdelta_carry_forward(const uint8_t *source, size_t source_length, uint8_t *target, size_t target_length);
 
-/* Carries an image of this firmware back to the old one: the first 45 bytes of `source`, 46 bytes of which the last, the recovery count, is
- * 40, in the first 45 of `target_length` lent bytes. The bytes after them are untouched. Source and target do not overlap. Of a board
+/* Carries an image of this firmware back to the old one: the first 45 bytes of `source`, 49 bytes of which the last four are 40, 0, 0, 0,
+ * in the first 45 of `target_length` lent bytes. The bytes after them are untouched. Source and target do not overlap. Of a board
  * that began with saltdelta_fresh and was stepped under one sheet the image can always be carried back while it is tripped. */
 uint32_t saltdelta_carry_back(const uint8_t *source, size_t source_length, uint8_t *target, size_t target_length);
 
 /* Replays recorded samples: `count` numbers, seven a sample, step a fresh record one sample after another under the same settings. Writes
- * the last report, or the fresh board's if no sample is accepted, and saves the record's image in the first 46 of `length` lent bytes. A sample
+ * the last report, or the fresh board's if no sample is accepted, and saves the record's image in the first 49 of `length` lent bytes. A sample
  * that is refused, as a last one of fewer than seven numbers is, is no step and does not refuse the replay. */
 saltdelta_replayed saltdelta_replay(const saltdelta_settings *settings, const uint32_t *samples, size_t count, saltdelta_report *report,
                                     uint8_t *buffer, size_t length);

@@ -15,8 +15,12 @@ mod board;
 mod damage;
 #[path = "draw.rs"]
 mod draw;
+#[path = "droop.rs"]
+mod droop;
 #[path = "edges.rs"]
 mod edges;
+#[path = "events.rs"]
+mod events;
 #[path = "feed.rs"]
 mod feed;
 #[path = "pairs.rs"]
@@ -25,6 +29,7 @@ mod pairs;
 mod runs;
 
 use edges::{Edges, Step};
+use events::{Events, Shown};
 use feed::Feed;
 use pairs::Pairs;
 use std::env;
@@ -54,7 +59,7 @@ impl Input {
 pub type Sink<'a> = &'a mut dyn FnMut(Input);
 
 /// The kinds of inputs, quick ones first.
-const MAKERS: [fn(Sink); 22] = [
+const MAKERS: [fn(Sink); 28] = [
     runs::sample_numbers,
     runs::bands,
     runs::curves,
@@ -73,6 +78,12 @@ const MAKERS: [fn(Sink); 22] = [
     damage::pipe_blocks,
     damage::long_lines,
     runs::far_outside,
+    droop::points,
+    droop::walks,
+    droop::returns,
+    droop::cessations,
+    droop::trips,
+    droop::powers,
     pairs::told,
     pairs::together,
     runs::ramps,
@@ -85,16 +96,20 @@ const REACHED_AT_LEAST: usize = 100;
 const SIGNALS_AT_MOST: usize = 3;
 const BITS: [&str; 9] = ["uv1", "uv2", "ov1", "ov2", "uf1", "uf2", "of1", "of2", "ready"];
 
-/// What a report line says, but for share and vars.
+/// What a report line says; of vars the size.
 #[derive(Clone, Copy)]
 struct Said {
     status: u8,
     bits: u16,
+    share: usize,
     recovery: usize,
+    side: usize,
+    held: usize,
     watts: usize,
+    vars: usize,
 }
 
-const FRESH: Said = Said { status: board::TRIPPED, bits: 0, recovery: 40, watts: 0 };
+const FRESH: Said = Said { status: board::TRIPPED, bits: 0, share: 0, recovery: 40, side: 0, held: 0, watts: 0, vars: 0 };
 
 impl Said {
     fn in_service(self) -> bool {
@@ -103,6 +118,11 @@ impl Said {
 
     fn ceased(self) -> bool {
         [board::MOMENTARY, board::CEASE].contains(&self.status)
+    }
+
+    fn shown(self) -> Shown {
+        let [share, recovery, held, watts, vars] = [self.share, self.recovery, self.held, self.watts, self.vars].map(|number| number as i64);
+        Shown { status: self.status, share, recovery, side: self.side as u8, held, watts, vars }
     }
 }
 
@@ -150,6 +170,21 @@ fn ramp_of(input: &[u8]) -> Option<usize> {
     ramp.parse().ok().filter(|_| wait <= 60000)
 }
 
+/// The power of the watt curve's first point, in an input's line 13 where it can be read there; or 0.
+fn curve_of(input: &[u8]) -> i64 {
+    let power = || -> Option<i64> {
+        let line = std::str::from_utf8(input.split(|&byte| byte == b'\n').nth(12)?).ok()?;
+        line.strip_prefix("(watt (")?.split_once(')')?.0.split_once(' ')?.1.parse().ok()
+    };
+    power().unwrap_or(0)
+}
+
+/// The number that the digits of a report line's word make, of vars the size; 0 where there is no such word.
+fn size(words: &[&[u8]], place: usize) -> usize {
+    let word = words.get(place).copied().unwrap_or_default();
+    word.iter().filter(|byte| byte.is_ascii_digit()).fold(0, |number, digit| number * 10 + usize::from(digit - b'0'))
+}
+
 /// A number of a report line.
 fn number(word: &[u8]) -> usize {
     std::str::from_utf8(word).ok().and_then(|digits| digits.parse().ok()).expect("a number")
@@ -160,7 +195,7 @@ fn numbers(line: &[u8]) -> Vec<u32> {
     line.split(|byte| !byte.is_ascii_digit()).filter(|word| !word.is_empty()).map(|word| number(word) as u32).collect()
 }
 
-/// What the inputs reached, counted in what both programs wrote, at the edges of the frequency's regions by the samples too.
+/// What the inputs reached, counted in what both programs wrote, at the edges of the frequency's regions and in droop events by the samples too.
 #[derive(Default)]
 struct Reached {
     kinds: Vec<(&'static str, usize)>,
@@ -172,6 +207,7 @@ struct Reached {
     recoveries: [usize; RECOVERIES.len()],
     ramps: [usize; RAMPS.len()],
     edges: Edges,
+    events: Events,
     pairs: Pairs,
 }
 
@@ -192,12 +228,15 @@ impl Reached {
                 *count += usize::from(shown(ramp, said));
             }
         }
-        let mut before = FRESH;
+        let curve = curve_of(input);
+        self.events.fresh();
+        let (mut before, mut sample_before, mut refused) = (FRESH, vec![0; 7], false);
         let samples = input.split(|&byte| byte == b'\n').skip(13).chain(std::iter::repeat(&b""[..]));
         for (line, sample) in output.split(|&byte| byte == b'\n').filter(|line| !line.is_empty()).zip(samples) {
             let words: Vec<&[u8]> = line.split(|&byte| byte == b' ').collect();
             if words[0] == b"(refused" {
                 self.refusals[usize::from(words[1][0] - b'1')] += 1;
+                refused = true;
                 continue;
             }
             let status = board::STATUS_WORDS.iter().position(|word| word.as_bytes() == words[1]).expect("a status word");
@@ -206,18 +245,28 @@ impl Reached {
                 *count += usize::from(bit == b'1');
             }
             let bits = words[2].iter().fold(0, |bits, &bit| 2 * bits + u16::from(bit == b'1'));
-            let now = Said { status: status as u8, bits, recovery: number(words[4]), watts: number(words[5]) };
+            let [share, side, held, watts, vars] = [3, 5, 6, 7, 8].map(|place| size(&words, place));
+            let now = Said { status: status as u8, bits, share, recovery: number(words[4]), side, held, watts, vars };
+            let sample = numbers(sample);
             for (count, (_, shown)) in self.recoveries.iter_mut().zip(RECOVERIES) {
                 *count += usize::from(shown(before, now));
             }
             self.edges.count(&Step {
-                sample: &numbers(sample),
+                sample: &sample,
                 service: [before, now].map(Said::in_service),
                 recovery: [before, now].map(|said| said.recovery as u8),
                 bits: [before.bits, now.bits],
                 status: now.status,
             });
-            before = now;
+            self.events.count(&events::Step {
+                sample: &sample,
+                sample_before: &sample_before,
+                before: before.shown(),
+                now: now.shown(),
+                refused,
+                curve,
+            });
+            (before, sample_before, refused) = (now, sample, false);
         }
     }
 
@@ -233,6 +282,7 @@ impl Reached {
         things.extend(RAMPS.iter().zip(self.ramps).map(|((name, _), count)| (name.to_string(), count)));
         things.extend(self.pairs.things());
         things.extend(self.edges.things());
+        things.extend(self.events.things());
         // The clearing times of uf1 and of1 are too long to be run out so often; tests/library/ does it on lent records.
         things.extend(self.edges.run_out().into_iter().filter(|(name, _)| !name.starts_with("uf1") && !name.starts_with("of1")));
         things

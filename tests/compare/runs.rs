@@ -6,7 +6,7 @@ use crate::{Input, Sink};
 
 /// An input in the making: a sheet, then samples.
 pub struct Run<'a> {
-    sheet: &'a Sheet,
+    pub sheet: &'a Sheet,
     text: String,
 }
 
@@ -22,17 +22,17 @@ impl Run<'_> {
         }
     }
 
-    fn normal(&mut self, times: usize) {
+    pub fn normal(&mut self, times: usize) {
         self.sample(NORMAL, times);
     }
 
     /// Into service, and `more` steps up the ramp.
-    fn enter(&mut self, more: usize) {
+    pub fn enter(&mut self, more: usize) {
         self.normal(self.sheet.wait() + more);
     }
 
     /// The level on one phase, the rest normal.
-    fn phase(&mut self, place: usize, code: u32, times: usize) {
+    pub fn phase(&mut self, place: usize, code: u32, times: usize) {
         let mut sample = NORMAL;
         sample[place] = code;
         self.sample(sample, times);
@@ -43,7 +43,7 @@ impl Run<'_> {
     }
 
     /// A limit broken by as little as a code or a frequency can, or by `more` of them.
-    fn broken(&mut self, limit: usize, place: usize, more: u32, times: usize) {
+    pub fn broken(&mut self, limit: usize, place: usize, more: u32, times: usize) {
         let level = self.sheet.limit(limit);
         match limit {
             0 | 1 => self.phase(place, code_below(level).saturating_sub(more), times),
@@ -421,7 +421,7 @@ fn run_out(run: &mut Run, limit: usize, draws: &mut Draws) {
 }
 
 /// Codes that stop power: momentary cessation below and above, and cease.
-const STOPPING: [u32; 6] = [0, 249, 1211, 1440, 1441, 4095];
+pub const STOPPING: [u32; 6] = [0, 249, 1211, 1440, 1441, 4095];
 
 /// Recoveries after cessations of every kind: of each length from 1 to 60 steps, cut short by the next one and by a trip; then drawn ones.
 pub fn recoveries(sink: Sink) {

@@ -2,8 +2,10 @@
  * form of the comparison program's mode `calls`; tests/library.sh holds the answers against that program's. What that mode does not have
  * is checked here: the sheet of spec 3.3 and the refused lines of spec 11.1, that a replay is what its steps one by one are, that a
  * refused call writes no byte of what is lent to it, bytes of padding among them, that an image carried over and back is what it was, and
- * that the calls reach each way in which the recovery count moves, a rule is named and an image is carried or refused, and the edges of the
- * frequency's regions, that ramps at the ends of their row and outside it are taken or refused, and that a rule is what its name in the header says. Every other step is an explained one, on the same record. It prints 'N passed, M failed' for these. */
+ * that the calls reach each way in which the recovery count moves, a droop event begins, goes on, ends and holds the watts, a rule is named and an
+ * image is carried or refused, and the edges of the frequency's regions, that ramps at the ends of their row and outside it are taken or refused,
+ * and that a rule is what its name in the header says. Every other step is an explained one, on the same record. It prints 'N passed, M failed'
+ * for these. */
 #include <inttypes.h>
 #include <stdio.h>
 #include <string.h>
@@ -47,7 +49,10 @@ static int one_in(uint32_t n) {
 
 enum {
     BY_MOMENTARY, BY_CEASE, UP_ENTERING, UP_CONTINUOUS, UP_MANDATORY, HELD, BY_TRIP, AT_RETURN, LIMITS, ABOVE, UNREAD,
-    FORWARD, FORWARD_10, FORWARD_10_9, FORWARD_9, BACK, BACK_10, BACK_10_11, BACK_10_9, BACK_11, BACK_11_9, BACK_9, OLD_NEW_OLD, NEW_OLD_NEW,
+    FORWARD, FORWARD_10, FORWARD_10_9, FORWARD_9, BACK, BACK_10, BACK_10_11, BACK_10_9, BACK_10_11_9, BACK_11, BACK_11_9, BACK_9,
+    BACK_RECOVERY, BACK_SIDE, BACK_HELD_HIGH, BACK_HELD_LOW, BACK_SIDE_9, BACK_HELD_LOW_9, FORWARD_46, FORWARD_47, FORWARD_49, BACK_46, BACK_48,
+    BACK_45, FORWARD_INTO_45, FORWARD_INTO_46, FORWARD_INTO_47, FORWARD_INTO_48, FORWARD_INTO_49, BACK_INTO_44, BACK_INTO_45, OLD_NEW_OLD,
+    NEW_OLD_NEW,
     WAYS
 };
 static const char *const ways[WAYS] = {
@@ -55,8 +60,16 @@ static const char *const ways[WAYS] = {
     "recovery up in mandatory", "recovery held at 40", "recovery to 40 by a trip", "recovery 40 at a return",
     "recovery limits the watts", "recovery above 40 read as 40", "recovery of a tripped record not read",
     "carried forward", "forward refused with 10", "forward refused with 10, short target too", "forward refused with 9",
-    "carried back", "back refused with 10", "back refused with 10, another recovery too", "back refused with 10, short target too",
-    "back refused with 11", "back refused with 11, short target too", "back refused with 9", "old to new to old", "new to old to new"};
+    "carried back", "back refused with 10", "back refused with 10, another end too", "back refused with 10, short target too",
+    "back refused with 10, another end and a short target too", "back refused with 11", "back refused with 11, short target too",
+    "back refused with 9", "back refused with 11 for the recovery alone", "back refused with 11 for the side alone",
+    "back refused with 11 for the held power's high byte alone", "back refused with 11 for the held power's low byte alone",
+    "back refused with 11 for the side alone, short target too", "back refused with 11 for the held power's low byte alone, short target too",
+    "forward, 46 bytes refused with 10", "forward, 47 bytes refused with 10", "forward, 49 bytes refused with 10",
+    "back, 46 bytes that end with a full recovery refused with 10", "back, 48 bytes refused with 10", "back, 45 bytes refused with 10",
+    "forward, into 45 bytes refused with 9", "forward, into 46 bytes refused with 9", "forward, into 47 bytes refused with 9",
+    "forward, into 48 bytes refused with 9", "forward, into 49 bytes carried", "back, into 44 bytes refused with 9", "back, into 45 bytes carried",
+    "old to new to old", "new to old to new"};
 static unsigned reached[WAYS];
 
 /* Counts the ways that a step shows: the status and the recovery lent to it, and its report. */
@@ -79,13 +92,13 @@ static void shown(uint8_t status, uint8_t recovery, const saltdelta_report *r) {
 
 /* ---- what is reached of the rules */
 
-enum { STATUS_RULES = SALTDELTA_STATUS_BY_FREQUENCY, WATTS_RULES = SALTDELTA_WATTS_BY_RECOVERY, POWERS = 6 };
+enum { STATUS_RULES = SALTDELTA_STATUS_BY_FREQUENCY, WATTS_RULES = SALTDELTA_WATTS_BY_DROOP, POWERS = 6, EVENT_POWERS = 4 };
 
 /* By their numbers, and the limits by their places, from 1. */
 static const char *const status_rules[STATUS_RULES + 1] = {"", "permission", "a limit", "the wait", "a return", "lowest", "highest", "frequency"};
 static const char *const limits[9] = {"", "uv1", "uv2", "ov1", "ov2", "uf1", "uf2", "of1", "of2"};
 static const char *const watts_rules[WATTS_RULES + 1] = {
-    "", "the status", "available", "the operator", "the share", "the curve", "the nameplate", "the recovery"};
+    "", "the status", "available", "the operator", "the share", "the curve", "the nameplate", "the recovery", "the droop"};
 
 /* Ways of naming a rule. */
 enum {
@@ -105,12 +118,12 @@ static const char *const namings[NAMINGS] = {
     "the status holds the watts in momentary", "the status holds the watts in cease", "another rule holds the watts at 0",
     "nothing holds the watts down"};
 
-/* `ahead`: a limit named before another that is complete. `same_left`: at [i][k] the power i named where the later k leaves the same, at [i][i]
- * where no other does. */
-static unsigned by_status[256], by_limit[256], ahead[256], by_watts[256], same_left[POWERS][POWERS], named[NAMINGS], refused_with[12];
+/* `ahead`: a limit named before another that is complete. `same_left`: without an event and in one, at [i][k] the power i named where the later k
+ * leaves the same, at [i][i] where no other does. */
+static unsigned by_status[256], by_limit[256], ahead[256], by_watts[256], same_left[2][POWERS][POWERS], named[NAMINGS], refused_with[12];
 
-/* Steps of which what the header's name of a rule says is not so. */
-static unsigned misnamed;
+/* Steps of which what the header's name of a rule says is not so, and of which that of a side is not. */
+static unsigned misnamed, misplaced;
 
 static uint32_t root(uint32_t square) {
     uint32_t found = 0;
@@ -141,26 +154,66 @@ static int32_t watt_curve(const saltdelta_settings *s, const uint32_t *sample) {
     return s->watt[0].power + (s->watt[1].power - s->watt[0].power) * (mean - from) / (to - from);
 }
 
-/* The header's names of the six, in their order. */
-static const int power_names[POWERS] = {SALTDELTA_WATTS_BY_AVAILABLE, SALTDELTA_WATTS_BY_OPERATOR,  SALTDELTA_WATTS_BY_SHARE,
-                                        SALTDELTA_WATTS_BY_CURVE,     SALTDELTA_WATTS_BY_NAMEPLATE, SALTDELTA_WATTS_BY_RECOVERY};
+/* What the rating leaves beside the vars. */
+static uint32_t nameplate(const saltdelta_report *r) {
+    const uint32_t vars = (uint32_t)(r->vars < 0 ? -r->vars : r->vars);
+    return vars > 10000 ? 0 : root(100000000 - vars * vars);
+}
 
-/* In a status that gives power: which of the six leave what the watts are. */
-static void powers_named(const saltdelta_settings *s, const uint32_t *sample, const saltdelta_explained *e) {
-    const saltdelta_report *r = &e->report;
-    const uint32_t vars = (uint32_t)(r->vars < 0 ? -r->vars : r->vars), nameplate = vars > 10000 ? 0 : root(100000000 - vars * vars);
-    const uint32_t left[POWERS] = {sample[5], sample[6], r->share, (uint32_t)watt_curve(s, sample), nameplate, 250 * (uint32_t)r->recovery};
-    int first = 0, same = 0;
-    while (first < POWERS && power_names[first] != e->watts_rule)
-        first++;
-    misnamed += first == POWERS || left[first] != r->watts;
-    if (first == POWERS)
-        return;
-    for (int i = 0; i < POWERS; i++) {
-        same += left[i] == r->watts;
-        same_left[first][i] += i > first && left[i] == r->watts;
+/* The two points of the droop: on them and between them there is no event. */
+enum { LOW_POINT = 59964, HIGH_POINT = 60036 };
+
+static int side_of(uint32_t hertz) {
+    return hertz > HIGH_POINT ? SALTDELTA_HIGH_SIDE : hertz < LOW_POINT ? SALTDELTA_LOW_SIDE : SALTDELTA_NO_SIDE;
+}
+
+/* Ten times the way from the point that the frequency is past. */
+static int32_t tenfold(uint32_t hertz) {
+    return 10 * (int32_t)(hertz > HIGH_POINT ? hertz - HIGH_POINT : hertz < LOW_POINT ? LOW_POINT - hertz : 0);
+}
+
+/* The held power moved by the frequency. */
+static int32_t moved_power(uint16_t held, uint32_t hertz) {
+    const int32_t quotient = tenfold(hertz) / 3;
+    return hertz < LOW_POINT ? held + quotient : held > quotient ? held - quotient : 0;
+}
+
+/* The header's names of the powers that may hold the watts, without an event and in one, in the order in which they are named. */
+static const int powers[2] = {POWERS, EVENT_POWERS};
+static const int power_names[2][POWERS] = {
+    {SALTDELTA_WATTS_BY_AVAILABLE, SALTDELTA_WATTS_BY_OPERATOR, SALTDELTA_WATTS_BY_SHARE, SALTDELTA_WATTS_BY_CURVE,
+     SALTDELTA_WATTS_BY_NAMEPLATE, SALTDELTA_WATTS_BY_RECOVERY},
+    {SALTDELTA_WATTS_BY_DROOP, SALTDELTA_WATTS_BY_CURVE, SALTDELTA_WATTS_BY_NAMEPLATE, SALTDELTA_WATTS_BY_RECOVERY}};
+
+/* What the power of a rule leaves. */
+static uint32_t left_by(int rule, const saltdelta_settings *s, const uint32_t *sample, const saltdelta_report *r) {
+    const uint32_t moved = (uint32_t)moved_power(r->held, sample[3]);
+    switch (rule) {
+    case SALTDELTA_WATTS_BY_AVAILABLE: return sample[5];
+    case SALTDELTA_WATTS_BY_OPERATOR: return sample[6];
+    case SALTDELTA_WATTS_BY_SHARE: return r->share;
+    case SALTDELTA_WATTS_BY_CURVE: return (uint32_t)watt_curve(s, sample);
+    case SALTDELTA_WATTS_BY_NAMEPLATE: return nameplate(r);
+    case SALTDELTA_WATTS_BY_RECOVERY: return 250 * (uint32_t)r->recovery;
+    default: return moved < sample[5] ? moved : sample[5];
     }
-    same_left[first][first] += same == 1;
+}
+
+/* In a status that gives power: which of the powers leave what the watts are. The first of them is to be named. */
+static void powers_named(const saltdelta_settings *s, const uint32_t *sample, const saltdelta_explained *e) {
+    const int event = e->report.side != SALTDELTA_NO_SIDE;
+    int first = -1, same = 0;
+    for (int i = 0; i < powers[event]; i++) {
+        if (left_by(power_names[event][i], s, sample, &e->report) != e->report.watts)
+            continue;
+        if (first < 0)
+            first = i;
+        same_left[event][first][i] += i > first;
+        same++;
+    }
+    misnamed += first < 0 || power_names[event][first] != e->watts_rule;
+    if (same == 1)
+        same_left[event][first][first]++;
 }
 
 /* What the header's name of a status rule says is so; `was` and `is`: in service before and after. */
@@ -245,13 +298,15 @@ static void rules_reached(void) {
     }
     for (int i = 1; i <= WATTS_RULES; i++)
         often(by_watts[i], "watts held by ", watts_rules[i], "");
-    for (int i = 0; i < POWERS; i++)
-        for (int k = i; k < POWERS; k++) {
-            char beside[64] = "";
-            if (k > i)
-                sprintf(beside, ", the same left by %s", watts_rules[SALTDELTA_WATTS_BY_AVAILABLE + k]);
-            often(same_left[i][k], k > i ? "watts held by " : "watts held alone by ", watts_rules[SALTDELTA_WATTS_BY_AVAILABLE + i], beside);
-        }
+    for (int event = 0; event < 2; event++)
+        for (int i = 0; i < powers[event]; i++)
+            for (int k = i; k < powers[event]; k++) {
+                char held[64], beside[64] = "";
+                sprintf(held, "watts held%s%s by ", event ? " in an event" : "", k > i ? "" : " alone");
+                if (k > i)
+                    sprintf(beside, ", the same left by %s", watts_rules[power_names[event][k]]);
+                often(same_left[event][i][k], held, watts_rules[power_names[event][i]], beside);
+            }
     for (int i = 0; i < NAMINGS; i++)
         often(named[i], "rules: ", namings[i], "");
     for (int i = SALTDELTA_RANGE; i <= SALTDELTA_SAMPLE; i++) {
@@ -303,6 +358,171 @@ static void edges_reached(void) {
         often(run_out[i], "frequency: ", limits[i], " runs out far outside");
 }
 
+/* ---- what is reached of the droop */
+
+enum { POINTS = 4, BY_SIDE = 58, OTHERWISE = 6, MOST_WAYS = 64 };
+/* The points, and the frequencies that are the first of an event. */
+static const uint32_t points[POINTS] = {LOW_POINT - 1, LOW_POINT, HIGH_POINT, HIGH_POINT + 1};
+static const char *const sides[3] = {"", "high side", "low side"};
+
+/* A way and how often it was shown. The ways of a list are told in the same order by every step, from the first on. */
+typedef struct {
+    const char *name;
+    unsigned count;
+} droop_way;
+typedef struct {
+    droop_way ways[MOST_WAYS];
+    int at;
+} droop_list;
+static droop_list by_side[3], otherwise;
+/* At [i][service]: point i, tripped, in service and at a return. */
+static unsigned at_point[POINTS][3];
+
+static void way(droop_list *list, const char *name, int shown) {
+    list->ways[list->at].name = name;
+    list->ways[list->at++].count += shown != 0;
+}
+
+static uint16_t top_power(uint16_t power) {
+    return power > 10000 ? 10000 : power;
+}
+
+/* Counts what an accepted step shows of one side: what was lent to it, its report, and the rule of the watts where it was an explained one, else 0. */
+static void side_shown(int side, const saltdelta_board *b, const saltdelta_settings *s, const uint32_t *sample, const saltdelta_report *r, int rule) {
+    droop_list *const list = &by_side[side];
+    const uint16_t watts = top_power(b->watts), held = top_power(b->held);
+    const int was = b->status >= SALTDELTA_ENTERING && b->status <= SALTDELTA_CEASE, is = r->status != SALTDELTA_TRIPPED;
+    const int stays = was && is, returns = !was && is, nameless = b->status > SALTDELTA_CEASE, here = r->side == side;
+    const int none = r->side == SALTDELTA_NO_SIDE && r->held == 0, beyond = side_of(sample[3]) == side;
+    const int as_fresh = b->status == SALTDELTA_TRIPPED && b->recovery == RECOVERY_TOP && b->side == SALTDELTA_NO_SIDE && b->held == 0
+        && b->ramp == 0 && b->watts == 0 && b->vars == 0;
+    /* the watts before are held now; another held power than the lent one */
+    const int begins = here && r->held == watts, changes = r->held != held;
+    const int begun = stays && b->side == SALTDELTA_NO_SIDE && b->watts > 0 && b->watts <= 10000 && begins && changes;
+    const int again = stays && begins && changes, jump = again && b->side == SALTDELTA_LOW_SIDE + SALTDELTA_HIGH_SIDE - side;
+    /* nothing is taken from a record that is read as tripped */
+    const int untaken = !was && b->side == side && b->held > 0 && changes;
+    const int on = stays && b->side == side && here, goes_on = on && b->held > 0 && b->held <= 10000 && watts != held && r->held == b->held;
+    const int ends = was && b->side == side && b->held > 0 && none, ended = ends && is;
+    const int between = ended && sample[3] >= LOW_POINT && sample[3] <= HIGH_POINT;
+    const int tripped = ends && !is && beyond, idle = !is && b->side == SALTDELTA_NO_SIDE && b->watts > 0 && beyond && none;
+    const int gives = here && r->status >= SALTDELTA_ENTERING && r->status <= SALTDELTA_MANDATORY;
+    const int after = was && b->status >= SALTDELTA_MOMENTARY && b->side == SALTDELTA_NO_SIDE && gives && begins;
+    const int32_t moved = moved_power(r->held, sample[3]), available = (int32_t)sample[5], given = r->watts;
+    const int32_t by = given > r->held ? given - r->held : r->held - given;
+    const int32_t curve = watt_curve(s, sample), plate = (int32_t)nameplate(r), back = 250 * (int32_t)r->recovery;
+    const int32_t least = curve < plate ? (curve < back ? curve : back) : plate < back ? plate : back;
+    /* the watts are the moved power, and one more would be given too; or what is available, which is less */
+    const int is_free = gives && given == moved && moved < available && moved < least;
+    const int cut = gives && given == available && available > 0 && available < moved && available < least;
+    const int shown = is_free && given > 0, remainder = tenfold(sample[3]) % 3, limit = (int32_t)sample[6] < given, share = r->share < r->watts;
+    list->at = 0;
+    way(list, "begins in service", begun);
+    way(list, "begins in service, a held power lent without a side", begun && b->held > 0);
+    way(list, "begins in service, watts above 10000", stays && b->side == SALTDELTA_NO_SIDE && b->watts > 10000 && begins);
+    way(list, "begins at a return, watts 0", returns && b->watts == 0 && begins);
+    way(list, "begins at a return, as from fresh", returns && begins && as_fresh);
+    way(list, "begins at a return, watts lent", returns && b->watts > 0 && b->watts <= 10000 && begins);
+    way(list, "begins at a return, watts above 10000", returns && b->watts > 10000 && begins);
+    way(list, "begins at a return, side and held power of a tripped record not taken", returns && begins && untaken && !nameless);
+    way(list, "begins at a return, side and held power of a status without a name not taken", returns && begins && untaken && nameless);
+    way(list, "begins anew after a side without a name", again && b->side > SALTDELTA_LOW_SIDE);
+    way(list, "begins anew after side 3", again && b->side == 3);
+    way(list, "begins anew after side 255", again && b->side == 255);
+    way(list, "begins anew after a jump", jump);
+    way(list, "begins anew after a jump, watts above 10000", jump && b->watts > 10000);
+    way(list, "begins in momentary", begun && r->status == SALTDELTA_MOMENTARY);
+    way(list, "begins in cease", begun && r->status == SALTDELTA_CEASE);
+    way(list, "begins in mandatory", begun && r->status == SALTDELTA_MANDATORY);
+    way(list, "begins after a cessation, none held", after && b->watts == 0);
+    way(list, "begins after a cessation, watts lent", after && b->watts > 0);
+    way(list, "does not begin at a trip", was && idle);
+    way(list, "does not begin in a tripped record", !was && idle);
+    way(list, "goes on", goes_on);
+    way(list, "goes on with watts above 10000 before", goes_on && b->watts > 10000);
+    way(list, "goes on, none held and watts before", on && b->held == 0 && b->watts > 0 && r->held == 0);
+    way(list, "goes on, above 10000 held as 10000", on && b->held > 10000 && b->watts < 10000 && r->held == 10000);
+    way(list, "goes on in entering", goes_on && r->status == SALTDELTA_ENTERING);
+    way(list, "goes on in continuous", goes_on && r->status == SALTDELTA_CONTINUOUS);
+    way(list, "goes on in mandatory", goes_on && r->status == SALTDELTA_MANDATORY);
+    way(list, "goes on in momentary", goes_on && r->status == SALTDELTA_MOMENTARY);
+    way(list, "goes on in cease", goes_on && r->status == SALTDELTA_CEASE);
+    way(list, "goes on after momentary", goes_on && b->status == SALTDELTA_MOMENTARY && gives);
+    way(list, "goes on after cease", goes_on && b->status == SALTDELTA_CEASE && gives);
+    way(list, "ends at 59964", ended && sample[3] == LOW_POINT);
+    way(list, "ends at 60036", ended && sample[3] == HIGH_POINT);
+    way(list, "ends between the points", between && sample[3] != LOW_POINT && sample[3] != HIGH_POINT);
+    way(list, "ends in momentary", between && r->status == SALTDELTA_MOMENTARY);
+    way(list, "ends in cease", between && r->status == SALTDELTA_CEASE);
+    way(list, "ended by permission", tripped && sample[4] == 0);
+    way(list, "ended by a limit", tripped && sample[4] == 1);
+    way(list, "none in a tripped record that stays so", untaken && !is && !nameless && beyond);
+    way(list, "none in a status without a name that stays tripped", untaken && !is && nameless && beyond);
+    way(list, "moves the held power", shown && by > 0);
+    way(list, "moves the held power at a return", shown && returns);
+    way(list, "moves the held power by 3, a millihertz past the point", is_free && tenfold(sample[3]) == 10 && by == 3);
+    way(list, "quotient with remainder 1", shown && remainder == 1);
+    way(list, "quotient with remainder 2", shown && remainder == 2);
+    way(list, "cut by available power", cut);
+    way(list, "available power below the watts before holds", on && cut && available < watts);
+    way(list, "none available", gives && available == 0 && moved > 0 && given == 0);
+    way(list, "operator's limit below the watts", gives && limit);
+    way(list, "share below the watts", gives && share);
+    way(list, "operator's limit and share below the watts at a return", returns && gives && limit && share);
+    way(list, "status named", here && rule == SALTDELTA_WATTS_BY_STATUS);
+    way(list, "droop named", here && rule == SALTDELTA_WATTS_BY_DROOP);
+    way(list, "droop named, the watts those available", rule == SALTDELTA_WATTS_BY_DROOP && cut);
+    way(list, "curve named", here && rule == SALTDELTA_WATTS_BY_CURVE);
+    way(list, "nameplate named", here && rule == SALTDELTA_WATTS_BY_NAMEPLATE);
+    way(list, "recovery named", here && rule == SALTDELTA_WATTS_BY_RECOVERY);
+}
+
+/* Counts an accepted step on either side, and what is reached once for both. */
+static void droop_shown(const saltdelta_board *b, const saltdelta_settings *s, const uint32_t *sample, const saltdelta_report *r, int rule) {
+    const int was = b->status >= SALTDELTA_ENTERING && b->status <= SALTDELTA_CEASE, is = r->status != SALTDELTA_TRIPPED;
+    const int32_t quotient = tenfold(sample[3]) / 3;
+    const int gives = is && r->status <= SALTDELTA_MANDATORY;
+    const int over = gives && r->side == SALTDELTA_HIGH_SIDE && r->held > 0 && r->held < quotient && r->watts == 0;
+    const int nothing = over && sample[5] > 0 && watt_curve(s, sample) > 0 && nameplate(r) > 0 && r->recovery > 0;
+    const int cleared = was && b->held > 0 && r->side == SALTDELTA_NO_SIDE && r->held == 0;
+    misplaced += r->side != (is ? side_of(sample[3]) : SALTDELTA_NO_SIDE);
+    side_shown(SALTDELTA_HIGH_SIDE, b, s, sample, r, rule);
+    side_shown(SALTDELTA_LOW_SIDE, b, s, sample, r, rule);
+    otherwise.at = 0;
+    way(&otherwise, "0 by the floor", nothing);
+    way(&otherwise, "0 by the floor, one too many", nothing && quotient == r->held + 1);
+    way(&otherwise, "held without a side, ended between the points", is && cleared && b->side == SALTDELTA_NO_SIDE);
+    way(&otherwise, "held under a side without a name, ended between the points", is && cleared && b->side > SALTDELTA_LOW_SIDE);
+    way(&otherwise, "held without a side, ended by a trip", !is && cleared && b->side == SALTDELTA_NO_SIDE);
+    way(&otherwise, "held under a side without a name, ended by a trip", !is && cleared && b->side > SALTDELTA_LOW_SIDE);
+    for (int i = 0; i < POINTS; i++)
+        if (sample[3] == points[i] && (is || !was))
+            at_point[i][!is ? 0 : was ? 1 : 2]++;
+}
+
+static void droops_reached(void) {
+    static const char *const services[3] = {" mHz tripped", " mHz in service", " mHz at a return"};
+    printf("%9u  sides that are not as the header names them\n", misplaced);
+    expect(misplaced == 0, "the header's names of the sides");
+    for (int side = SALTDELTA_HIGH_SIDE; side <= SALTDELTA_LOW_SIDE; side++) {
+        if (by_side[side].at != BY_SIDE) expect(0, "the count of the droop's ways");
+        for (int i = 0; i < by_side[side].at; i++) {
+            char what[32];
+            sprintf(what, "droop, %s: ", sides[side]);
+            often(by_side[side].ways[i].count, what, by_side[side].ways[i].name, "");
+        }
+    }
+    if (otherwise.at != OTHERWISE) expect(0, "the count of the droop's other ways");
+    for (int i = 0; i < otherwise.at; i++)
+        often(otherwise.ways[i].count, "droop: ", otherwise.ways[i].name, "");
+    for (int i = 0; i < POINTS; i++)
+        for (int service = 0; service < 3; service++) {
+            char point[12];
+            sprintf(point, "%" PRIu32, points[i]);
+            often(at_point[i][service], "droop: ", point, services[service]);
+        }
+}
+
 /* ---- calls and answers, a line each */
 
 static void put_bytes(const uint8_t *bytes, size_t length) {
@@ -321,7 +541,7 @@ static void give_record(const saltdelta_board *b) {
     fprintf(calls, "record %u", b->status);
     for (int i = 0; i < 9; i++)
         fprintf(calls, " %" PRIu32, b->counters[i]);
-    fprintf(calls, " %" PRIu32 " %u %d %u\n", b->ramp, b->watts, b->vars, b->recovery);
+    fprintf(calls, " %" PRIu32 " %u %d %u %u %u\n", b->ramp, b->watts, b->vars, b->recovery, b->side, b->held);
     fputs("ok\n", answers);
 }
 
@@ -350,7 +570,7 @@ static void put_report(const saltdelta_report *r) {
     fprintf(answers, "report %u ", r->status);
     for (int i = SALTDELTA_UV1; i <= SALTDELTA_READY; i++)
         fputc(r->bits >> (8 - i) & 1 ? '1' : '0', answers);
-    fprintf(answers, " %u %u %u %d ", r->share, r->recovery, r->watts, r->vars);
+    fprintf(answers, " %u %u %u %u %u %d ", r->share, r->recovery, r->side, r->held, r->watts, r->vars);
 }
 
 static void put_rules(const saltdelta_explained *e) {
@@ -377,14 +597,16 @@ typedef struct {
 
 /* In the fields of both reports stand numbers that no step writes. */
 static void fill(lent_step *lent, int pattern, const saltdelta_board *b, const saltdelta_settings *s, const uint32_t *sample, size_t count) {
-    const saltdelta_report r = {77, 77, 20077, 20077, 20077, -20077};
+    const saltdelta_report r = {77, 77, 20077, 20077, 20077, -20077, 20077, 77};
     memset(lent, pattern, sizeof *lent);
     lent->board.status = b->status;
     lent->board.recovery = b->recovery;
+    lent->board.side = b->side;
     memcpy(lent->board.counters, b->counters, sizeof b->counters);
     lent->board.ramp = b->ramp;
     lent->board.watts = b->watts;
     lent->board.vars = b->vars;
+    lent->board.held = b->held;
     memcpy(&lent->settings, s, sizeof *s);
     lent->report = r;
     lent->explained.report = r;
@@ -405,6 +627,11 @@ static int stays(const lent_step *was, const lent_step *is, uint32_t number) {
     return memcmp(was, &masked, sizeof masked) == 0;
 }
 
+static int same_report(const saltdelta_report *a, const saltdelta_report *b) {
+    return a->status == b->status && a->bits == b->bits && a->share == b->share && a->recovery == b->recovery && a->watts == b->watts
+        && a->vars == b->vars && a->held == b->held && a->side == b->side;
+}
+
 /* An explained step. The report is that of the last accepted one. */
 static uint32_t explain(saltdelta_board *b, const saltdelta_settings *s, const uint32_t *sample, size_t count, saltdelta_report *last) {
     static unsigned made;
@@ -420,6 +647,7 @@ static uint32_t explain(saltdelta_board *b, const saltdelta_settings *s, const u
         put_rules(&lent.explained);
         shown(b->status, b->recovery, &lent.explained.report);
         edge_shown(b, s, sample, &lent.explained.report);
+        droop_shown(b, s, sample, &lent.explained.report, lent.explained.watts_rule);
         explained_shown(b->status, s, sample, &lent.explained);
         *last = lent.explained.report;
     } else {
@@ -437,7 +665,8 @@ static uint32_t explain(saltdelta_board *b, const saltdelta_settings *s, const u
 static uint32_t step(saltdelta_board *b, const saltdelta_settings *s, const uint32_t *sample, size_t count, saltdelta_report *last) {
     static unsigned made;
     const saltdelta_board before = *b;
-    saltdelta_report r = {77, 77, 77, 77, 77, -77};
+    const saltdelta_report lent = {77, 77, 77, 77, 77, -77, 77, 77};
+    saltdelta_report r = lent;
     uint8_t image[SALTDELTA_IMAGE] = {0};
     uint32_t number;
     if (made++ % 2 == 0)
@@ -448,7 +677,8 @@ static uint32_t step(saltdelta_board *b, const saltdelta_settings *s, const uint
         put_report(&r);
         shown(before.status, before.recovery, &r);
         edge_shown(&before, s, sample, &r);
-    } else if (r.status == 77 && r.bits == 77 && r.share == 77 && r.recovery == 77 && r.watts == 77 && r.vars == -77) {
+        droop_shown(&before, s, sample, &r, 0);
+    } else if (same_report(&r, &lent)) {
         fprintf(answers, "refused %" PRIu32 " ", number);
     } else {
         fprintf(answers, "refused %" PRIu32 " with a report ", number);
@@ -460,7 +690,7 @@ static uint32_t step(saltdelta_board *b, const saltdelta_settings *s, const uint
     return number;
 }
 
-static void save(const saltdelta_board *b, size_t length) {
+static uint32_t save(const saltdelta_board *b, size_t length) {
     uint8_t buffer[64];
     uint32_t number;
     memset(buffer, 0xAA, sizeof buffer);
@@ -471,6 +701,7 @@ static void save(const saltdelta_board *b, size_t length) {
     else
         fprintf(answers, "refused %" PRIu32 " ", number);
     put_bytes(buffer, length);
+    return number;
 }
 
 /* ---- sheets */
@@ -552,8 +783,8 @@ static saltdelta_settings settings_of_sheet(void) {
 }
 
 static void fill_steady(lent_step *lent, int pattern, const saltdelta_settings *s) {
-    const saltdelta_board b = {
-        .status = SALTDELTA_CONTINUOUS, .recovery = 7, .counters = {0, 1, 2, 3, 4, 5, 6, 7, 8}, .ramp = 100, .watts = 5000, .vars = -5};
+    const saltdelta_board b = {.status = SALTDELTA_CONTINUOUS, .recovery = 7, .side = SALTDELTA_HIGH_SIDE,
+                               .counters = {0, 1, 2, 3, 4, 5, 6, 7, 8}, .ramp = 100, .watts = 5000, .vars = -5, .held = 6000};
     fill(lent, pattern, &b, s, steady, 7);
 }
 
@@ -626,7 +857,7 @@ static void saves_refused(void) {
         memset(&board_before, 0xA5, sizeof board_before);
         expect(saltdelta_save(&board, buffer, length) == SALTDELTA_BUFFER && memcmp(buffer, before, sizeof buffer) == 0
                    && memcmp(&board, &board_before, sizeof board) == 0,
-               "a buffer under 46 bytes");
+               "a buffer under 49 bytes");
     }
 }
 
@@ -660,7 +891,7 @@ static void replays_refused(void) {
         for (size_t length = 0; length <= sizeof lent.buffer; length++) {
             fill_replay(&lent, pattern, &s);
             if (length < SALTDELTA_IMAGE)
-                replay_refused(&lent, length, SALTDELTA_BUFFER, "a replay into a buffer under 46 bytes");
+                replay_refused(&lent, length, SALTDELTA_BUFFER, "a replay into a buffer under 49 bytes");
             lent.settings.trip[length % 8].clearing = 100001;
             replay_refused(&lent, length, SALTDELTA_RANGE, "a replay with a clearing time out of range");
             fill_replay(&lent, pattern, &s);
@@ -679,15 +910,29 @@ static uint32_t count(void) {
     return one_in(3) ? (uint32_t)next() : one_in(2) ? within(0, 20) : within(0, 100001);
 }
 
+/* Watts or a held power: none, near the top, or anything. */
+static uint16_t any_power(void) {
+    const uint32_t kind = within(0, 7);
+    return (uint16_t)(kind == 0 ? 0 : kind == 1 ? within(9999, 10001) : kind == 2 ? within(65534, 65535) : kind == 3 ? within(0, 65535) : within(0, 10000));
+}
+
+/* A side with a name or without one. */
+static uint8_t any_side(void) {
+    const uint32_t kind = within(0, 7);
+    return (uint8_t)(kind == 0 ? 3 : kind == 1 ? 255 : kind == 2 ? within(0, 255) : within(0, 2));
+}
+
 static saltdelta_board any_record(void) {
     saltdelta_board b;
     b.status = (uint8_t)(one_in(4) ? within(0, 255) : within(0, 6));
     for (int i = 0; i < 9; i++)
         b.counters[i] = count();
     b.ramp = count();
-    b.watts = (uint16_t)next();
+    b.watts = any_power();
     b.vars = (int16_t)within(0, 65535);
     b.recovery = (uint8_t)(one_in(2) ? within(0, 42) : within(0, 255));
+    b.side = any_side();
+    b.held = any_power();
     return b;
 }
 
@@ -715,15 +960,16 @@ static saltdelta_settings settings_read(void) {
     return s;
 }
 
-/* Steps with one sample: steady, or with one phase or the frequency at an edge of mandatory operation, momentary cessation or cease. */
+/* Steps with one sample: steady, or with one phase or the frequency at an edge of mandatory operation, momentary cessation or cease, or about a
+ * point of the droop. */
 static void steps(saltdelta_board *b, const saltdelta_settings *s, int dip, uint32_t times) {
     static const uint32_t edges[8] = {0, 249, 250, 774, 1211, 1440, 1441, 4095};
-    static const uint32_t hertz[6] = {40000, 56999, 57000, 62000, 62001, 80000};
+    static const uint32_t hertz[12] = {40000, 56999, 57000, 62000, 62001, 80000, 59700, 59963, 59964, 60036, 60037, 60300};
     saltdelta_report report;
     uint32_t sample[7];
     memcpy(sample, steady, sizeof sample);
-    if (dip && one_in(4))
-        sample[3] = hertz[within(0, 5)];
+    if (dip && one_in(3))
+        sample[3] = hertz[within(0, 11)];
     else if (dip)
         sample[within(0, 2)] = edges[within(0, 7)];
     while (times-- > 0)
@@ -998,60 +1244,331 @@ static void recoveries(void) {
     }
 }
 
-static int same_report(const saltdelta_report *a, const saltdelta_report *b) {
-    return a->status == b->status && a->bits == b->bits && a->share == b->share && a->recovery == b->recovery && a->watts == b->watts
-        && a->vars == b->vars;
-}
+enum { LONGEST_RECORDING = 400 };
 
-/* A recording of `count` numbers, some samples refused, is stepped one by one and then replayed: the same count of accepted samples, report
- * and image, and the bytes after the image stay. */
-static void replay(size_t count) {
-    uint32_t samples[400] = {0};
-    uint8_t stepped[64], replayed[64];
-    size_t accepted = 0, length = within(SALTDELTA_IMAGE, 60);
-    saltdelta_settings s = settings_read();
-    saltdelta_board b = saltdelta_fresh();
-    saltdelta_report last = saltdelta_fresh_report(), report = {77, 77, 77, 77, 77, -77};
-    saltdelta_replayed found;
-    anew();
-    give_settings(&s);
+/* Up to `count` numbers of a recording, seven a sample, some samples refused. */
+static void any_recording(uint32_t *samples, size_t count) {
     for (size_t i = 0; i < count; i += 7) {
         uint32_t sample[9];
         any_sample(sample);
         memcpy(samples + i, sample, 7 * sizeof *sample);
     }
+}
+
+/* A recording of `count` numbers is stepped one by one and then replayed into `length` bytes: the same count of accepted samples, report and image,
+ * and the bytes after the image stay; where it is refused, for the buffer, nothing is written. The report is the replay's. */
+static int replay(const uint32_t *samples, size_t count, size_t length, saltdelta_report *report) {
+    const saltdelta_report lent = {77, 77, 77, 77, 77, -77, 77, 77};
+    uint8_t stepped[64], replayed[64];
+    size_t accepted = 0;
+    saltdelta_settings s = settings_read();
+    saltdelta_board b = saltdelta_fresh();
+    saltdelta_report last = saltdelta_fresh_report();
+    saltdelta_replayed found;
+    int right;
+    anew();
+    give_settings(&s);
     for (size_t i = 0; i < count; i += 7)
         accepted += step(&b, &s, samples + i, count - i < 7 ? count - i : 7, &last) == SALTDELTA_ACCEPTED;
     memset(stepped, 0xAA, sizeof stepped);
     memset(replayed, 0xAA, sizeof replayed);
     saltdelta_save(&b, stepped, length);
-    found = saltdelta_replay(&s, samples, count, &report, replayed, length);
-    expect(found.number == SALTDELTA_ACCEPTED && found.accepted == accepted && same_report(&report, &last)
-               && memcmp(stepped, replayed, sizeof stepped) == 0,
-           "a replay and its steps");
+    *report = lent;
+    found = saltdelta_replay(&s, samples, count, report, replayed, length);
+    if (length < SALTDELTA_IMAGE)
+        right = found.number == SALTDELTA_BUFFER && found.accepted == 0 && same_report(report, &lent);
+    else
+        right = found.number == SALTDELTA_ACCEPTED && found.accepted == accepted && same_report(report, &last);
+    right = right && memcmp(stepped, replayed, sizeof stepped) == 0;
+    expect(right, "a replay and its steps");
+    return right;
+}
+
+/* Records saved, and recordings replayed, into buffers about the image's length; the right answers are counted. */
+enum { BUFFERS = 6, BUFFER_TIMES = 150 };
+static unsigned saved_into[BUFFERS], replayed_into[BUFFERS];
+
+static void buffers(void) {
+    for (size_t i = 0; i < BUFFERS; i++) {
+        const size_t length = SALTDELTA_OLD_IMAGE + i;
+        anew();
+        for (int k = 0; k < BUFFER_TIMES; k++) {
+            const saltdelta_board b = any_record();
+            give_record(&b);
+            saved_into[i] += save(&b, length) == (length < SALTDELTA_IMAGE ? SALTDELTA_BUFFER : SALTDELTA_ACCEPTED);
+        }
+        for (int k = 0; k < BUFFER_TIMES; k++) {
+            uint32_t samples[LONGEST_RECORDING] = {0};
+            saltdelta_report report;
+            const size_t count = within(0, 40);
+            any_recording(samples, count);
+            replayed_into[i] += (unsigned)replay(samples, count, length, &report);
+        }
+    }
+}
+
+static void buffers_reached(void) {
+    for (int i = 0; i < BUFFERS; i++) {
+        char into[48];
+        sprintf(into, "into %d bytes %s", SALTDELTA_OLD_IMAGE + i, SALTDELTA_OLD_IMAGE + i < SALTDELTA_IMAGE ? "refused with 9" : "done");
+        often(saved_into[i], "saving ", into, "");
+        often(replayed_into[i], "replay ", into, "");
+    }
+}
+
+/* ---- events of the droop */
+
+/* At the points and one past them, close by, in the continuous region, in the mandatory one, far outside, or nominal. */
+static uint32_t frequency(void) {
+    static const uint32_t far[4] = {40000, 56999, 62001, 80000};
+    const uint32_t kind = within(0, 11);
+    return kind < 4 ? points[within(0, 3)] : kind < 6 ? within(59900, 60100) : kind < 8 ? within(59000, 61000) : kind == 8 ? within(57000, 62000)
+         : kind == 9 ? far[within(0, 3)] : kind == 10 ? within(40000, 80000) : 60000;
+}
+
+/* Settings in which the droop mostly has the least to give: no vars, and a flat curve. */
+static saltdelta_settings open_settings(void) {
+    saltdelta_settings s = rule_settings();
+    const int open = !one_in(4);
+    for (int i = 0; i < 4 && open; i++)
+        s.var[i].power = 0;
+    for (int i = 0; i < 2 && open; i++)
+        s.watt[i].power = 10000;
+    if (one_in(2)) {
+        s.hertz.low = 59000;
+        s.hertz.high = 61000;
+    }
+    return s;
+}
+
+/* Nominal voltages mostly, else of any region; much power available mostly; a low limit of the operator's. */
+static void event_sample(uint32_t *sample) {
+    sample[0] = 1000;
+    sample[1] = 1000;
+    sample[2] = one_in(4) ? edge() : 1000;
+    sample[3] = frequency();
+    sample[4] = !one_in(12);
+    sample[5] = one_in(2) ? 10000 : one_in(3) ? 0 : within(0, 10000);
+    sample[6] = one_in(2) ? within(0, 499) : within(0, 10000);
+}
+
+/* The next sample of an event: the same, another, less available, or the frequency as far past the other point. */
+static void next_sample(uint32_t *sample, const saltdelta_report *now) {
+    const uint32_t kind = within(0, 5);
+    if (kind < 2)
+        event_sample(sample);
+    else if (kind == 2)
+        sample[5] = within(0, top_power(now->watts));
+    else if (kind == 3)
+        sample[3] = 120000 - sample[3];
+    else if (kind == 4)
+        sample[3] = frequency();
+}
+
+/* Boards from fresh, up a short ramp, with events of some steps; many return in one. */
+static void event_walks(void) {
+    for (int i = 0; i < 600; i++) {
+        saltdelta_board b = saltdelta_fresh();
+        const saltdelta_settings s = open_settings();
+        const uint32_t begin[7] = {1000, 1000, 1000, one_in(2) ? within(59900, 60100) : 60000, 1, 10000, 10000};
+        saltdelta_report report = saltdelta_fresh_report();
+        anew();
+        give_settings(&s);
+        for (uint32_t k = within(1, 12); k > 0; k--)
+            step(&b, &s, begin, 7, &report);
+        for (int events = 0; events < 6; events++) {
+            uint32_t sample[7];
+            for (uint32_t k = within(0, 19); k > 0; k--)
+                step(&b, &s, steady, 7, &report);
+            event_sample(sample);
+            for (uint32_t k = within(1, 5); k > 0; k--) {
+                step(&b, &s, sample, 7, &report);
+                next_sample(sample, &report);
+            }
+        }
+        save(&b, 51);
+    }
+}
+
+/* Lent records, mostly in service with low counters and a full recovery, with any side, held power and watts; three steps each. Some are about where
+ * nothing is left of the held power. */
+static void event_steps(void) {
+    for (int i = 0; i < 12000; i++) {
+        const saltdelta_settings s = open_settings();
+        saltdelta_board b = rule_record(&s);
+        saltdelta_report report = saltdelta_fresh_report();
+        uint32_t sample[7];
+        if (i % 20 == 0)
+            anew();
+        if (!one_in(4)) {
+            b.status = (uint8_t)within(SALTDELTA_ENTERING, SALTDELTA_CEASE);
+            for (int k = 0; k < 9; k++)
+                b.counters[k] = within(0, 11);
+        }
+        if (!one_in(4))
+            b.recovery = RECOVERY_TOP;
+        event_sample(sample);
+        if (one_in(6)) {
+            sample[3] = HIGH_POINT + within(1, 1900);
+            b.side = SALTDELTA_HIGH_SIDE;
+            b.held = (uint16_t)((uint32_t)tenfold(sample[3]) / 3 + within(0, 4) - 2);
+        }
+        give_settings(&s);
+        give_record(&b);
+        for (int k = 0; k < 3; k++) {
+            step(&b, &s, sample, 7, &report);
+            next_sample(sample, &report);
+        }
+    }
+}
+
+/* Lent records that are tripped, or have a status without a name; most of them return, many into an event. */
+static void event_returns(void) {
+    for (int i = 0; i < 9000; i++) {
+        saltdelta_settings s = open_settings();
+        saltdelta_board b;
+        uint32_t sample[7];
+        if (i % 20 == 0)
+            anew();
+        s.volts.low = 9000;
+        s.volts.high = 10600;
+        b = rule_record(&s);
+        b.status = (uint8_t)(one_in(2) ? SALTDELTA_TRIPPED : within(SALTDELTA_CEASE + 1, 255));
+        b.counters[8] = (s.wait > 1 ? s.wait : 1) - within(0, 1);
+        event_sample(sample);
+        sample[2] = 1000;
+        if (one_in(2))
+            sample[3] = within(s.hertz.low, s.hertz.high);
+        give_settings(&s);
+        two_steps(b, &s, sample);
+    }
+}
+
+/* What holds the watts in an event: one of droop, watt curve, nameplate and recovery leaves `least`, those before it more, those behind it the same or
+ * more; as with the six, nameplate and recovery leave somewhat more where that cannot be had. Available power, or the held power moved, is the
+ * droop's. */
+static void event_powers(void) {
+    static const uint32_t codes[4] = {1000, 900, 1150, 700};
+    for (int i = 0; i < 8000; i++) {
+        const uint32_t kind = within(0, 7), least = kind == 0 ? 0 : kind == 1 ? 10000 : kind < 4 ? within(0, 10000) : 250 * within(29, 39);
+        const uint32_t first = within(0, EVENT_POWERS - 1), high = within(0, 1), code = codes[within(0, 3)], begins = one_in(4);
+        saltdelta_settings s = rule_settings();
+        saltdelta_board b = any_record();
+        uint32_t left[EVENT_POWERS], room, past, sample[7] = {code, code, code, 0, 1, 10000, one_in(2) ? 0 : within(0, 10000)};
+        int32_t vars, held;
+        if (i % 20 == 0)
+            anew();
+        for (uint32_t k = 0; k < EVENT_POWERS; k++)
+            if (k < first && least < 10000)
+                left[k] = one_in(3) ? 10000 : within(least + 1, 10000);
+            else
+                left[k] = k == first || one_in(2) ? least : within(least, 10000);
+        vars = (int32_t)root(100000000 - left[2] * left[2]);
+        for (int k = 0; k < 4; k++)
+            s.var[k].power = left[2] % 2 == 0 ? vars : -vars;
+        s.watt[0].power = (int32_t)left[1];
+        if (one_in(2))
+            s.watt[1].power = (int32_t)left[1];
+        /* so far past the point that the held power is within its range */
+        room = (high ? 10000 - left[0] : left[0]) * 3 / 10;
+        past = within(1, room > 1500 ? 1500 : room > 1 ? room : 1);
+        held = (int32_t)left[0] + (high ? 1 : -1) * (int32_t)(past * 10 / 3);
+        sample[3] = high ? HIGH_POINT + past : LOW_POINT - past;
+        if (one_in(3) || held < 0 || held > 10000)
+            sample[5] = left[0];
+        held = held < 0 ? 0 : held > 10000 ? 10000 : held;
+        b.status = (uint8_t)within(SALTDELTA_ENTERING, SALTDELTA_CEASE);
+        for (int k = 0; k < 9; k++)
+            b.counters[k] = within(0, 11);
+        b.recovery = (uint8_t)(left[3] > 0 ? (left[3] + 249) / 250 - 1 : 0);
+        b.side = (uint8_t)(begins ? SALTDELTA_NO_SIDE : high ? SALTDELTA_HIGH_SIDE : SALTDELTA_LOW_SIDE);
+        if (begins)
+            b.watts = (uint16_t)held;
+        else
+            b.held = (uint16_t)held;
+        give_settings(&s);
+        two_steps(b, &s, sample);
+    }
+}
+
+/* Recordings that go up a short ramp and end in an event or after one. At [side][i]: with power held, with watts, after momentary or cease. */
+enum { REPLAY_ENDS = 3 };
+static unsigned replay_ends[3][REPLAY_ENDS];
+
+static void event_replays(void) {
+    for (int i = 0; i < 2000; i++) {
+        uint32_t samples[LONGEST_RECORDING] = {0};
+        size_t count = 0;
+        saltdelta_report r;
+        for (uint32_t k = within(4, 40); k > 0; k--, count += 7)
+            memcpy(samples + count, steady, sizeof steady);
+        for (uint32_t events = within(1, 3); events > 0; events--) {
+            event_sample(samples + count);
+            count += 7;
+            for (uint32_t k = within(0, 3); k > 0; k--, count += 7)
+                memcpy(samples + count, samples + count - 7, sizeof steady);
+        }
+        if (!replay(samples, count, within(SALTDELTA_IMAGE, 60), &r) || r.side > SALTDELTA_LOW_SIDE)
+            continue;
+        replay_ends[r.side][0] += r.held > 0;
+        replay_ends[r.side][1] += r.watts > 0;
+        replay_ends[r.side][2] += r.held > 0 && r.recovery < RECOVERY_TOP;
+    }
+}
+
+static void replay_ends_reached(void) {
+    static const char *const ends[REPLAY_ENDS] = {", with power held", ", with watts", ", after momentary or cease, with power held"};
+    for (int side = SALTDELTA_HIGH_SIDE; side <= SALTDELTA_LOW_SIDE; side++)
+        for (int i = 0; i < REPLAY_ENDS; i++)
+            often(replay_ends[side][i], "replay that ends in an event, ", sides[side], ends[i]);
 }
 
 /* ---- images carried over */
 
-enum { LONGEST_CARRIED = 60, LONG = 65536, BEHIND = 4 };
+enum { LONGEST_CARRIED = 60, LONG = 65536, BEHIND = 4, END = SALTDELTA_IMAGE - SALTDELTA_OLD_IMAGE };
+
+/* What an image that can be carried back has behind an old one: recovery, side and held power. */
+static const uint8_t end[END] = {RECOVERY_TOP, SALTDELTA_NO_SIDE, 0, 0};
 
 /* Counts the ways that a call of a direction shows: its number, and what else is wrong with it. */
 static void carried(int forward, uint32_t number, const uint8_t *source, size_t source_length, size_t room) {
     const int brief = room < (forward ? SALTDELTA_IMAGE : SALTDELTA_OLD_IMAGE);
-    const int not_full = source_length > SALTDELTA_OLD_IMAGE && source[SALTDELTA_OLD_IMAGE] != RECOVERY_TOP;
+    const int accepted = number == SALTDELTA_ACCEPTED, length = number == SALTDELTA_SOURCE_LENGTH, added = number == SALTDELTA_ADDED_BYTES;
+    /* bytes of the end that are off: 1 for the first, 2 for the second, 4, 8 */
+    int off = 0;
+    for (size_t i = 0; i < END && SALTDELTA_OLD_IMAGE + i < source_length; i++)
+        off |= (source[SALTDELTA_OLD_IMAGE + i] != end[i]) << i;
     if (forward) {
-        reached[FORWARD] += number == SALTDELTA_ACCEPTED;
-        reached[FORWARD_10] += number == SALTDELTA_SOURCE_LENGTH;
-        reached[FORWARD_10_9] += number == SALTDELTA_SOURCE_LENGTH && brief;
+        reached[FORWARD] += accepted;
+        reached[FORWARD_10] += length;
+        reached[FORWARD_10_9] += length && brief;
         reached[FORWARD_9] += number == SALTDELTA_BUFFER;
+        reached[FORWARD_46] += length && source_length == 46 && !brief;
+        reached[FORWARD_47] += length && source_length == 47;
+        reached[FORWARD_49] += length && source_length == SALTDELTA_IMAGE;
+        for (size_t i = 0; i < END; i++)
+            reached[FORWARD_INTO_45 + i] += number == SALTDELTA_BUFFER && room == SALTDELTA_OLD_IMAGE + i;
+        reached[FORWARD_INTO_49] += accepted && room == SALTDELTA_IMAGE;
     } else {
-        reached[BACK] += number == SALTDELTA_ACCEPTED;
-        reached[BACK_10] += number == SALTDELTA_SOURCE_LENGTH;
-        reached[BACK_10_11] += number == SALTDELTA_SOURCE_LENGTH && not_full;
-        reached[BACK_10_9] += number == SALTDELTA_SOURCE_LENGTH && brief;
-        reached[BACK_11] += number == SALTDELTA_ADDED_BYTES;
-        reached[BACK_11_9] += number == SALTDELTA_ADDED_BYTES && brief;
+        reached[BACK] += accepted;
+        reached[BACK_10] += length;
+        reached[BACK_10_11] += length && off;
+        reached[BACK_10_9] += length && brief;
+        reached[BACK_10_11_9] += length && off && brief;
+        reached[BACK_11] += added;
+        reached[BACK_11_9] += added && brief;
         reached[BACK_9] += number == SALTDELTA_BUFFER;
+        reached[BACK_RECOVERY] += added && off == 1;
+        reached[BACK_SIDE] += added && off == 2;
+        reached[BACK_HELD_HIGH] += added && off == 4;
+        reached[BACK_HELD_LOW] += added && off == 8;
+        reached[BACK_SIDE_9] += added && off == 2 && brief;
+        reached[BACK_HELD_LOW_9] += added && off == 8 && brief;
+        reached[BACK_46] += length && source_length == 46 && !off && !brief;
+        reached[BACK_48] += length && source_length == 48;
+        reached[BACK_45] += length && source_length == SALTDELTA_OLD_IMAGE;
+        reached[BACK_INTO_44] += number == SALTDELTA_BUFFER && room == SALTDELTA_OLD_IMAGE - 1;
+        reached[BACK_INTO_45] += accepted && room == SALTDELTA_OLD_IMAGE;
     }
 }
 
@@ -1085,44 +1602,59 @@ static void any_bytes(uint8_t *bytes, size_t length) {
         bytes[i] = (uint8_t)next();
 }
 
-/* Any byte but RECOVERY_TOP: past 255 it goes on at 0. */
-static uint8_t any_but_full(void) {
-    return (uint8_t)within(RECOVERY_TOP + 1, RECOVERY_TOP + 255);
+/* Any bytes, those after an old image's the ones of an image that can be carried back, as far as there are so many. */
+static void recovered(uint8_t *bytes, size_t length) {
+    any_bytes(bytes, length);
+    for (size_t i = 0; i < END && SALTDELTA_OLD_IMAGE + i < length; i++)
+        bytes[SALTDELTA_OLD_IMAGE + i] = end[i];
 }
 
-/* Sources of 0 to 60 bytes into targets of 0 to 60, the byte after the old image 40 and another; then every value of that byte in an
- * image, into targets of 0 to 60. */
+/* So many sources of this length, both ways, into targets of this one: with that end, with one byte of it off, and with any. */
+static void carry_both(size_t length, size_t room, int times) {
+    uint8_t source[LONGEST_CARRIED] = {0}, target[LONGEST_CARRIED + BEHIND];
+    for (int k = 0; k < times; k++) {
+        (k % 3 == 2 ? any_bytes : recovered)(source, length);
+        if (k % 3 == 1 && length > SALTDELTA_OLD_IMAGE) {
+            const size_t at = within(SALTDELTA_OLD_IMAGE, (uint32_t)(length < SALTDELTA_IMAGE ? length : SALTDELTA_IMAGE) - 1);
+            source[at] = (uint8_t)(source[at] + within(1, 255));
+        }
+        carry(1, source, length, target, room);
+        carry(0, source, length, target, room);
+    }
+}
+
+/* Sources of 0 to 60 bytes into targets of 0 to 60; more of them about the lengths of images; then every value of each byte of the end, into targets
+ * of 0 to 60. */
 static void carries(void) {
     uint8_t source[LONGEST_CARRIED] = {0}, target[LONGEST_CARRIED + BEHIND];
     for (size_t length = 0; length <= LONGEST_CARRIED; length++) {
         anew();
         for (size_t room = 0; room <= LONGEST_CARRIED; room++)
-            for (int k = 0; k < 6; k++) {
-                any_bytes(source, length);
-                if (length > SALTDELTA_OLD_IMAGE)
-                    source[SALTDELTA_OLD_IMAGE] = k % 2 ? RECOVERY_TOP : any_but_full();
-                carry(1, source, length, target, room);
-                carry(0, source, length, target, room);
-            }
+            carry_both(length, room, 6);
     }
-    for (int last = 0; last < 256; last++) {
-        anew();
-        for (size_t room = 0; room <= LONGEST_CARRIED; room++) {
-            any_bytes(source, SALTDELTA_IMAGE);
-            source[SALTDELTA_OLD_IMAGE] = (uint8_t)last;
-            carry(0, source, SALTDELTA_IMAGE, target, room);
+    for (size_t length = SALTDELTA_OLD_IMAGE - 1; length <= SALTDELTA_IMAGE + 1; length++)
+        for (size_t room = SALTDELTA_OLD_IMAGE - 1; room <= SALTDELTA_IMAGE + 1; room++) {
+            anew();
+            carry_both(length, room, 330);
         }
-    }
+    for (size_t at = SALTDELTA_OLD_IMAGE; at < SALTDELTA_IMAGE; at++)
+        for (int value = 0; value < 256; value++) {
+            anew();
+            for (size_t room = 0; room <= LONGEST_CARRIED; room++) {
+                recovered(source, SALTDELTA_IMAGE);
+                source[at] = (uint8_t)value;
+                carry(0, source, SALTDELTA_IMAGE, target, room);
+            }
+        }
 }
 
 /* Lengths whose low 8 or 16 bits are those of an image: a length is not cut on its way. */
 static void long_carries(void) {
     static uint8_t source[LONG + LONGEST_CARRIED], target[LONG + 1 + BEHIND];
-    any_bytes(source, sizeof source);
-    source[SALTDELTA_OLD_IMAGE] = RECOVERY_TOP;
+    recovered(source, sizeof source);
     anew();
     for (size_t more = 256; more <= LONG; more *= 256)
-        for (size_t length = SALTDELTA_OLD_IMAGE; length <= SALTDELTA_IMAGE; length++)
+        for (size_t length = SALTDELTA_OLD_IMAGE; length <= SALTDELTA_IMAGE; length += END)
             for (int forward = 0; forward < 2; forward++) {
                 carry(forward, source, length + more, target, LONGEST_CARRIED);
                 carry(forward, source, length, target, more);
@@ -1134,7 +1666,7 @@ static void long_carries(void) {
 static void round_trips(void) {
     for (int i = 0; i < 1000; i++) {
         uint8_t image[SALTDELTA_IMAGE] = {0}, there[LONGEST_CARRIED + BEHIND], again[LONGEST_CARRIED + BEHIND];
-        const saltdelta_board b = any_record();
+        saltdelta_board b = any_record();
         uint32_t number;
         int same;
         anew();
@@ -1144,11 +1676,17 @@ static void round_trips(void) {
         same = number == SALTDELTA_ACCEPTED && memcmp(again, image, SALTDELTA_OLD_IMAGE) == 0;
         expect(same, "an old image carried forward and back");
         reached[OLD_NEW_OLD] += same;
+        /* each of the three that go into the end is as it must be, but for some */
+        if (!one_in(5))
+            b.recovery = RECOVERY_TOP;
+        if (!one_in(5))
+            b.side = SALTDELTA_NO_SIDE;
+        if (!one_in(5))
+            b.held = 0;
         expect(saltdelta_save(&b, image, sizeof image) == SALTDELTA_ACCEPTED, "a saving before a carrying");
-        if (one_in(2))
-            image[SALTDELTA_OLD_IMAGE] = RECOVERY_TOP;
         number = carry(0, image, SALTDELTA_IMAGE, there, within(SALTDELTA_OLD_IMAGE, LONGEST_CARRIED));
-        expect((number == SALTDELTA_ACCEPTED) == (image[SALTDELTA_OLD_IMAGE] == RECOVERY_TOP), "the image of a record carried back");
+        expect((number == SALTDELTA_ACCEPTED) == (b.recovery == RECOVERY_TOP && b.side == SALTDELTA_NO_SIDE && b.held == 0),
+               "the image of a record carried back");
         if (number != SALTDELTA_ACCEPTED)
             continue;
         number = carry(1, there, SALTDELTA_OLD_IMAGE, again, within(SALTDELTA_IMAGE, LONGEST_CARRIED));
@@ -1168,8 +1706,8 @@ static void fresh(void) {
     expect(same_report(&e.report, &first) && e.status_rule == SALTDELTA_STATUS_BY_WAIT && e.limit == 0
                && e.watts_rule == SALTDELTA_WATTS_BY_STATUS,
            "the explained report of a fresh board");
-    expect(saltdelta_save(&b, image, sizeof image) == SALTDELTA_ACCEPTED && memcmp(image, zeros, SALTDELTA_IMAGE - 1) == 0
-               && image[SALTDELTA_IMAGE - 1] == RECOVERY_TOP,
+    expect(saltdelta_save(&b, image, sizeof image) == SALTDELTA_ACCEPTED && memcmp(image, zeros, SALTDELTA_OLD_IMAGE) == 0
+               && memcmp(image + SALTDELTA_OLD_IMAGE, end, END) == 0,
            "the image of a fresh board");
 }
 
@@ -1194,7 +1732,7 @@ int main(int argc, char **argv) {
             step(&b, &s, sample, any_sample(sample), &report);
         b = any_record();
         give_record(&b);
-        save(&b, (size_t)(i % 52));
+        save(&b, (size_t)(i % 55));
         if (one_in(2)) {
             s.trip[within(0, 7)].clearing = count();
             s.var[within(0, 3)].power = (int32_t)within(0, 21000) - 10500;
@@ -1209,8 +1747,17 @@ int main(int argc, char **argv) {
     ramp_ends();
     edge_steps();
     refused_explained();
-    for (size_t count = 0; count <= 350; count++)
-        replay(count);
+    event_walks();
+    event_steps();
+    event_returns();
+    event_powers();
+    for (size_t count = 0; count <= 350; count++) {
+        uint32_t samples[LONGEST_RECORDING] = {0};
+        any_recording(samples, count);
+        replay(samples, count, within(SALTDELTA_IMAGE, 60), &report);
+    }
+    event_replays();
+    buffers();
     carries();
     long_carries();
     round_trips();
@@ -1223,6 +1770,9 @@ int main(int argc, char **argv) {
     rules_reached();
     edges_reached();
     ramps_reached();
+    droops_reached();
+    replay_ends_reached();
+    buffers_reached();
     printf("%d passed, %d failed\n", passed, failed);
     return failed != 0;
 }

@@ -8,12 +8,14 @@
 #[allow(dead_code)]
 #[path = "../../comparison/board.rs"]
 mod comparison;
+mod droops;
 #[path = "../compare/edges.rs"]
 mod edges;
 mod library;
 mod ramps;
 
 use comparison as other;
+use droops::{Drooping, Droops};
 use edges::{Edges, LIMITS, Step};
 use library::{Board, Explained, Limit, Point, Replayed, Report, Settings, Sheet, Span};
 use std::marker::PhantomData;
@@ -23,8 +25,10 @@ use std::ptr::addr_of_mut;
 /// The top of the recovery count.
 const RECOVERY_TOP: u8 = 40;
 /// The bytes of an image, and of one of the old firmware.
-const IMAGE: u64 = 46;
+const IMAGE: usize = 49;
 const OLD_IMAGE: usize = 45;
+/// What an image that can be carried back has behind an old one: recovery, side and held power.
+const END: [u8; IMAGE - OLD_IMAGE] = [RECOVERY_TOP, 0, 0, 0];
 
 // ---- made numbers
 
@@ -159,6 +163,27 @@ fn sheet_of(p: &Pairs) -> Vec<u8> {
     s.into_bytes()
 }
 
+/// Watts or a held power: none, near the top, or anything.
+fn wild_power(dice: &mut Dice) -> u16 {
+    match dice.below(8) {
+        0 => 0,
+        1 => dice.within(9_999, 10_001) as u16,
+        2 => u16::MAX - dice.below(2) as u16,
+        3 => dice.next() as u16,
+        _ => dice.within(0, 10_000) as u16,
+    }
+}
+
+/// A side with a name or without one.
+fn wild_side(dice: &mut Dice) -> u8 {
+    match dice.below(8) {
+        0 => 3,
+        1 => u8::MAX,
+        2 => dice.next() as u8,
+        _ => dice.below(3) as u8,
+    }
+}
+
 /// A record that a step could have written, or anything.
 fn wild_record(dice: &mut Dice) -> Board {
     let count = |dice: &mut Dice| match dice.below(4) {
@@ -171,7 +196,7 @@ fn wild_record(dice: &mut Dice) -> Board {
         status: if dice.one_in(4) { dice.next() as u8 } else { dice.within(0, 6) as u8 },
         counters: std::array::from_fn(|_| count(dice)),
         ramp: count(dice),
-        watts: if dice.one_in(2) { dice.within(0, 10001) as u16 } else { dice.next() as u16 },
+        watts: wild_power(dice),
         vars: dice.next() as i16,
         recovery: match dice.below(4) {
             0 => dice.within(38, 42) as u8,
@@ -179,6 +204,8 @@ fn wild_record(dice: &mut Dice) -> Board {
             2 => u8::MAX - dice.below(3) as u8,
             _ => dice.next() as u8,
         },
+        side: wild_side(dice),
+        held: wild_power(dice),
     }
 }
 
@@ -190,6 +217,8 @@ fn wild_report(dice: &mut Dice) -> Report {
         recovery: dice.next() as u8,
         watts: dice.next() as u16,
         vars: dice.next() as i16,
+        held: dice.next() as u16,
+        side: dice.next() as u8,
     }
 }
 
@@ -213,14 +242,14 @@ fn sample(dice: &mut Dice, wild: bool) -> Vec<u32> {
 /// Codes at the edges of mandatory operation, momentary cessation and cease.
 const DIPS: [u32; 8] = [0, 249, 250, 774, 1211, 1440, 1441, 4095];
 
-/// Frequencies at the ends of ride-through and far outside.
-const HERTZ_DIPS: [u32; 6] = [40000, 56999, 57000, 62000, 62001, 80000];
+/// Frequencies at the ends of ride-through and far outside, and about the ends of the deadband.
+const HERTZ_DIPS: [u32; 12] = [40000, 56999, 57000, 62000, 62001, 80000, 59700, 59963, 59964, 60036, 60037, 60300];
 
 /// A sample in which one phase, or the frequency, is one of these.
 fn dip(dice: &mut Dice, steady: &[u32]) -> Vec<u32> {
     let mut s = steady.to_vec();
-    if dice.one_in(4) {
-        s[3] = HERTZ_DIPS[dice.below(6) as usize];
+    if dice.one_in(3) {
+        s[3] = HERTZ_DIPS[dice.below(12) as usize];
     } else {
         s[dice.below(3) as usize] = DIPS[dice.below(8) as usize];
     }
@@ -274,13 +303,14 @@ fn other_settings(s: &Settings) -> other::Settings {
 }
 
 fn other_record(b: &Board) -> other::Board {
-    let Board { status, counters, ramp, watts, vars, recovery } = *b;
-    other::Board { status, counters, ramp, watts, vars, recovery }
+    let Board { status, counters, ramp, watts, vars, recovery, side, held } = *b;
+    other::Board { status, counters, ramp, watts, vars, recovery, side, held }
 }
 
 fn report_of(r: &other::Report) -> Report {
     let bits = r.bits.iter().fold(0, |n, &bit| 2 * n + u16::from(bit));
-    Report { status: r.status, bits, share: r.share, recovery: r.recovery, watts: r.watts, vars: r.vars }
+    let other::Report { status, share, recovery, side, held, watts, vars, .. } = *r;
+    Report { status, recovery, bits, share, watts, vars, held, side }
 }
 
 fn explained_of(r: &other::Report, rules: &other::Rules) -> Explained {
@@ -327,6 +357,8 @@ fn lent_board(pattern: u8, b: &Board) -> Lent<Board> {
         addr_of_mut!((*p).watts).write(b.watts);
         addr_of_mut!((*p).vars).write(b.vars);
         addr_of_mut!((*p).recovery).write(b.recovery);
+        addr_of_mut!((*p).side).write(b.side);
+        addr_of_mut!((*p).held).write(b.held);
     })
 }
 
@@ -338,6 +370,8 @@ fn lent_report(pattern: u8, r: &Report) -> Lent<Report> {
         addr_of_mut!((*p).recovery).write(r.recovery);
         addr_of_mut!((*p).watts).write(r.watts);
         addr_of_mut!((*p).vars).write(r.vars);
+        addr_of_mut!((*p).held).write(r.held);
+        addr_of_mut!((*p).side).write(r.side);
     })
 }
 
@@ -434,6 +468,10 @@ const _: () = assert!(
     && library::WATTS_BY_CURVE == other::WATTS_BY_CURVE
     && library::WATTS_BY_NAMEPLATE == other::WATTS_BY_NAMEPLATE
     && library::WATTS_BY_RECOVERY == other::WATTS_BY_RECOVERY
+    && library::WATTS_BY_DROOP == other::WATTS_BY_DROOP
+    && library::NO_SIDE == other::NO_SIDE
+    && library::HIGH_SIDE == other::HIGH_SIDE
+    && library::LOW_SIDE == other::LOW_SIDE
 );
 
 /// The rules in the order of their numbers, from 1.
@@ -446,7 +484,7 @@ const STATUS_RULES: [(u8, &str); 7] = [
     (library::STATUS_BY_HIGHEST, "highest"),
     (library::STATUS_BY_FREQUENCY, "frequency"),
 ];
-const WATTS_RULES: [(u8, &str); 7] = [
+const WATTS_RULES: [(u8, &str); 8] = [
     (library::WATTS_BY_STATUS, "the status"),
     (library::WATTS_BY_AVAILABLE, "available"),
     (library::WATTS_BY_OPERATOR, "the operator"),
@@ -454,7 +492,37 @@ const WATTS_RULES: [(u8, &str); 7] = [
     (library::WATTS_BY_CURVE, "the curve"),
     (library::WATTS_BY_NAMEPLATE, "the nameplate"),
     (library::WATTS_BY_RECOVERY, "the recovery"),
+    (library::WATTS_BY_DROOP, "the droop"),
 ];
+
+/// The powers that may hold the watts of a status that gives power, in the order in which they are named: without an event and in one.
+const POWERS: [&[u8]; 2] = [
+    &[
+        library::WATTS_BY_AVAILABLE,
+        library::WATTS_BY_OPERATOR,
+        library::WATTS_BY_SHARE,
+        library::WATTS_BY_CURVE,
+        library::WATTS_BY_NAMEPLATE,
+        library::WATTS_BY_RECOVERY,
+    ],
+    &[library::WATTS_BY_DROOP, library::WATTS_BY_CURVE, library::WATTS_BY_NAMEPLATE, library::WATTS_BY_RECOVERY],
+];
+
+/// The volt-watt curve at the mean voltage.
+fn watt_curve(settings: &Settings, sample: &[u32]) -> i64 {
+    let mean = i64::from(sample[..3].iter().map(|code| (code * 100_000).isqrt()).sum::<u32>() / 3);
+    let [(from, first), (to, last)] = settings.watt.map(|p| (i64::from(p.volts), i64::from(p.power)));
+    match mean {
+        _ if mean <= from => first,
+        _ if mean >= to => last,
+        _ => first + (last - first) * (mean - from) / (to - from),
+    }
+}
+
+/// What the rating leaves beside the vars.
+fn nameplate(vars: i16) -> i64 {
+    (100_000_000 - i64::from(vars).pow(2)).max(0).isqrt()
+}
 
 /// An explained step: what was lent to it and what came of it. What the report does not show is worked out here, only to be counted.
 struct Explaining<'a> {
@@ -502,23 +570,18 @@ impl Explaining<'_> {
         self.named(rule) && self.regions()[2] == other::CEASE && (self.sample[3] > 62000) == above
     }
 
-    /// The volt-watt curve at the mean voltage.
-    fn curve(&self) -> i64 {
-        let mean = i64::from(self.sample[..3].iter().map(|code| (code * 100_000).isqrt()).sum::<u32>() / 3);
-        let [(from, first), (to, last)] = self.settings.watt.map(|p| (i64::from(p.volts), i64::from(p.power)));
-        match mean {
-            _ if mean <= from => first,
-            _ if mean >= to => last,
-            _ => first + (last - first) * (mean - from) / (to - from),
-        }
-    }
-
-    /// What each of the six leaves, in the order of their numbers, in a status that gives power.
-    fn left(&self) -> [i64; 6] {
+    /// What the power of a rule leaves in a status that gives power.
+    fn left(&self, rule: u8) -> i64 {
         let r = &self.now.report;
-        let nameplate = (100_000_000 - i64::from(r.vars).pow(2)).isqrt();
-        let (available, limit) = (i64::from(self.sample[5]), i64::from(self.sample[6]));
-        [available, limit, i64::from(r.share), self.curve(), nameplate, 250 * i64::from(r.recovery)]
+        match rule {
+            library::WATTS_BY_AVAILABLE => i64::from(self.sample[5]),
+            library::WATTS_BY_OPERATOR => i64::from(self.sample[6]),
+            library::WATTS_BY_SHARE => i64::from(r.share),
+            library::WATTS_BY_CURVE => watt_curve(self.settings, self.sample),
+            library::WATTS_BY_NAMEPLATE => nameplate(r.vars),
+            library::WATTS_BY_RECOVERY => 250 * i64::from(r.recovery),
+            _ => droops::moved(r.held, self.sample[3]).min(i64::from(self.sample[5])),
+        }
     }
 
     fn status_holds(&self, status: u8) -> bool {
@@ -569,8 +632,10 @@ struct Reached {
     /// with another one complete behind it in the sheet
     ahead: [u64; LIMITS.len()],
     watts_rules: [u64; WATTS_RULES.len()],
-    /// at [i][k] the power i named where the later k leaves the same, at [i][i] where no other does
-    ties: [[u64; 6]; 6],
+    /// without an event and in one: at [i][k] the power i named where the later k leaves the same, at [i][i] where no other does
+    ties: [[[u64; 6]; 6]; 2],
+    /// another rule named than the first that leaves what the watts are
+    astray: u64,
     namings: [u64; NAMINGS.len()],
     /// by the number of the refusal
     refused: [u64; 9],
@@ -594,16 +659,23 @@ impl Reached {
             *count += u64::from(shown(step));
         }
         if giving(step.now.report.status) {
-            let named = step.now.watts_rule - library::WATTS_BY_AVAILABLE;
-            self.tied(named.into(), step.left().map(|left| left == i64::from(step.now.report.watts)));
+            let event = usize::from(step.now.report.side != library::NO_SIDE);
+            let watts = i64::from(step.now.report.watts);
+            let same: Vec<usize> = (0..POWERS[event].len()).filter(|&i| step.left(POWERS[event][i]) == watts).collect();
+            self.tied(event, step.now.watts_rule, &same);
         }
     }
 
-    /// `same` are those that leave what the watts are, the one named among them.
-    fn tied(&mut self, named: usize, same: [bool; 6]) {
-        self.ties[named][named] += u64::from(same.iter().filter(|&&one| one).count() == 1);
-        for i in named + 1..6 {
-            self.ties[named][i] += u64::from(same[i]);
+    /// `same` are those that leave what the watts are, by their places.
+    fn tied(&mut self, event: usize, rule: u8, same: &[usize]) {
+        match same {
+            [first, later @ ..] if POWERS[event][*first] == rule => {
+                self.ties[event][*first][*first] += u64::from(later.is_empty());
+                for k in later {
+                    self.ties[event][*first][*k] += 1;
+                }
+            }
+            _ => self.astray += 1,
         }
     }
 
@@ -621,11 +693,15 @@ impl Reached {
         for ((_, name), count) in WATTS_RULES.into_iter().zip(self.watts_rules) {
             tally.reached("watts held by", name, count);
         }
-        for i in 0..6 {
-            let (name, later) = (WATTS_RULES[i + 1].1, |j: usize| WATTS_RULES[j + 1].1);
-            tally.reached("watts held alone by", name, self.ties[i][i]);
-            for j in i + 1..6 {
-                tally.reached("watts held by", &format!("{name}, the same left by {}", later(j)), self.ties[i][j]);
+        println!("{:>9}  rules that are not the first to leave what the watts are", self.astray);
+        tally.expect(self.astray == 0);
+        let name = |rule: u8| WATTS_RULES[usize::from(rule) - 1].1;
+        for (ties, (powers, held)) in self.ties.iter().zip(POWERS.into_iter().zip(["watts held", "watts held in an event"])) {
+            for (i, &power) in powers.iter().enumerate() {
+                tally.reached(&format!("{held} alone by"), name(power), ties[i][i]);
+                for (k, &later) in powers.iter().enumerate().skip(i + 1) {
+                    tally.reached(&format!("{held} by"), &format!("{}, the same left by {}", name(power), name(later)), ties[i][k]);
+                }
             }
         }
         for ((name, _), count) in NAMINGS.into_iter().zip(self.namings) {
@@ -650,28 +726,65 @@ struct Carrying<'a> {
 impl Carrying<'_> {
     /// The target has no room for the image.
     fn brief(&self) -> bool {
-        self.room < if self.forward { IMAGE as usize } else { OLD_IMAGE }
+        self.room < if self.forward { IMAGE } else { OLD_IMAGE }
     }
 
-    /// The byte after an old image's is there, and is no full recovery count.
-    fn not_full(&self) -> bool {
-        self.source.get(OLD_IMAGE).is_some_and(|&recovery| recovery != RECOVERY_TOP)
+    /// Which of the bytes after an old image's, where they are there, are not those of the end.
+    fn off(&self) -> Vec<usize> {
+        (0..END.len()).filter(|&i| self.source.get(OLD_IMAGE + i).is_some_and(|&byte| byte != END[i])).collect()
+    }
+
+    /// Carried back, refused with 11 for this one byte of the end.
+    fn refused_for(&self, at: usize) -> bool {
+        !self.forward && self.number == 11 && self.off() == [at]
+    }
+
+    /// Of so many bytes, and refused with 10.
+    fn of(&self, length: usize) -> bool {
+        self.source.len() == length && self.number == 10
+    }
+
+    /// Into so many bytes, with this answer.
+    fn into(&self, room: usize, number: u32) -> bool {
+        self.room == room && self.number == number
     }
 }
 
 /// The ways in which an image is carried, and in which it is refused with other causes behind the first.
-const CARRYINGS: [(&str, fn(&Carrying) -> bool); 11] = [
+const CARRYINGS: [(&str, fn(&Carrying) -> bool); 31] = [
     ("forward, carried", |c| c.forward && c.number == 0),
     ("forward, refused with 10", |c| c.forward && c.number == 10),
     ("forward, refused with 10, short target too", |c| c.forward && c.number == 10 && c.brief()),
     ("forward, refused with 9", |c| c.forward && c.number == 9),
     ("back, carried", |c| !c.forward && c.number == 0),
     ("back, refused with 10", |c| !c.forward && c.number == 10),
-    ("back, refused with 10, another recovery too", |c| !c.forward && c.number == 10 && c.not_full()),
+    ("back, refused with 10, another end too", |c| !c.forward && c.number == 10 && !c.off().is_empty()),
     ("back, refused with 10, short target too", |c| !c.forward && c.number == 10 && c.brief()),
     ("back, refused with 11", |c| !c.forward && c.number == 11),
     ("back, refused with 11, short target too", |c| !c.forward && c.number == 11 && c.brief()),
     ("back, refused with 9", |c| !c.forward && c.number == 9),
+    ("back, refused with 11 for the recovery alone", |c| c.refused_for(0)),
+    ("back, refused with 11 for the side alone", |c| c.refused_for(1)),
+    ("back, refused with 11 for the held power's high byte alone", |c| c.refused_for(2)),
+    ("back, refused with 11 for the held power's low byte alone", |c| c.refused_for(3)),
+    ("back, refused with 11 for the side alone, short target too", |c| c.refused_for(1) && c.brief()),
+    ("back, refused with 11 for the held power's low byte alone, short target too", |c| c.refused_for(3) && c.brief()),
+    ("back, refused with 10, another end and a short target too", |c| {
+        !c.forward && c.number == 10 && !c.off().is_empty() && c.brief()
+    }),
+    ("forward, 46 bytes refused with 10", |c| c.forward && c.of(46) && !c.brief()),
+    ("forward, 47 bytes refused with 10", |c| c.forward && c.of(47)),
+    ("forward, 49 bytes refused with 10", |c| c.forward && c.of(49)),
+    ("back, 46 bytes that end with a full recovery refused with 10", |c| !c.forward && c.of(46) && c.off().is_empty() && !c.brief()),
+    ("back, 48 bytes refused with 10", |c| !c.forward && c.of(48)),
+    ("back, 45 bytes refused with 10", |c| !c.forward && c.of(45)),
+    ("forward, into 45 bytes refused with 9", |c| c.forward && c.into(45, 9)),
+    ("forward, into 46 bytes refused with 9", |c| c.forward && c.into(46, 9)),
+    ("forward, into 47 bytes refused with 9", |c| c.forward && c.into(47, 9)),
+    ("forward, into 48 bytes refused with 9", |c| c.forward && c.into(48, 9)),
+    ("forward, into 49 bytes carried", |c| c.forward && c.into(49, 0)),
+    ("back, into 44 bytes refused with 9", |c| !c.forward && c.into(44, 9)),
+    ("back, into 45 bytes carried", |c| !c.forward && c.into(45, 0)),
 ];
 
 // ---- the comparisons: each makes one call to both and says whether they agree
@@ -686,6 +799,7 @@ struct Tally {
     /// of these every other is an explained one
     steps: u64,
     recoveries: [u64; RECOVERIES.len()],
+    droops: Droops,
     edges: Edges,
     rules: Reached,
     carryings: [u64; CARRYINGS.len()],
@@ -706,15 +820,21 @@ impl Tally {
 
     /// The calls since the last case are one case.
     fn case(&mut self) {
-        if self.differ_in_case == 0 {
+        self.expect(self.differ_in_case == 0);
+        self.differ_in_case = 0;
+    }
+
+    /// What is no call and no count, and right or not, is a case as well.
+    fn expect(&mut self, right: bool) {
+        if right {
             self.passed += 1;
         } else {
             self.failed += 1;
         }
-        self.differ_in_case = 0;
     }
 
-    fn accepted(&mut self, lent: &Board, settings: &Settings, sample: &[u32], now: &Report) {
+    /// Counts an accepted step on which both agree; `rule` is that of the watts, where it was an explained one.
+    fn accepted(&mut self, lent: &Board, settings: &Settings, sample: &[u32], now: &Report, rule: Option<u8>) {
         let full = (0..8).filter(|&i| lent.counters[i] >= settings.trip[i].clearing);
         self.edges.count(&Step {
             sample,
@@ -726,17 +846,17 @@ impl Tally {
         for (count, (_, shown)) in self.recoveries.iter_mut().zip(RECOVERIES) {
             *count += u64::from(shown(lent, now));
         }
+        self.droops.count(&Drooping { lent, settings, sample, now, rule });
     }
 
     /// A thing to be reached often enough is a case.
     fn reached(&mut self, what: &str, name: &str, count: u64) {
         println!("{count:>9}  {what} {name}");
-        if count >= REACHED_AT_LEAST {
-            self.passed += 1;
-        } else {
-            self.failed += 1;
+        let often = count >= REACHED_AT_LEAST;
+        if !often {
             println!("too few: {what} {name}");
         }
+        self.expect(often);
     }
 
     /// The first of the ways, counted since this was last asked.
@@ -795,7 +915,7 @@ fn compare_explained(tally: &mut Tally, board: &mut Board, settings: &Settings, 
         format!("explained step of {lent:?} with {sample:?}: {found} {board:?} {explained:?}, not {number} {record:?} {reported:?}")
     });
     if same && found == 0 {
-        tally.accepted(&lent.0, settings, sample, &explained.report);
+        tally.accepted(&lent.0, settings, sample, &explained.report, Some(explained.watts_rule));
         tally.rules.accepted(&Explaining { lent: &lent.0, settings, sample, now: explained });
     } else if same {
         tally.rules.refused[found as usize] += 1;
@@ -823,7 +943,7 @@ fn compare_plain(tally: &mut Tally, board: &mut Board, settings: &Settings, samp
         && (found == 0 || untouched);
     tally.call(same, || format!("step of {:?} with {:?}: {} {:?} {:?}, not {} {:?} {:?}", lent, sample, found, board, report, number, record, reported));
     if same && found == 0 {
-        tally.accepted(&lent.0, settings, sample, report);
+        tally.accepted(&lent.0, settings, sample, report, None);
     }
     found
 }
@@ -895,7 +1015,7 @@ fn compare_carry(tally: &mut Tally, forward: bool, source: &[u8], target: &[u8])
     tally.call(same, || format!("carrying {source:?} into {target:?}, forward {forward}: {found} {after:?}, not {number} {expected:?}"));
     let carrying = Carrying { forward, source, room: target.len(), number: found };
     for (count, (_, shown)) in tally.carryings.iter_mut().zip(CARRYINGS) {
-        *count += u64::from(shown(&carrying));
+        *count += u64::from(same && shown(&carrying));
     }
     (found, after)
 }
@@ -938,6 +1058,13 @@ fn compare_replay(tally: &mut Tally, settings: &Settings, samples: &[u32], repor
 
 // ---- the groups
 
+/// Counts a status or a number; one that there is none of is found by the comparison, and not counted.
+fn note(seen: &mut [u64; 10], what: u64) {
+    if let Some(count) = seen.get_mut(what as usize) {
+        *count += 1;
+    }
+}
+
 /// Boards from fresh: mostly steady samples, dips, some refused; `seen` counts the statuses reported.
 fn boards(tally: &mut Tally, dice: &mut Dice, seen: &mut [u64; 10]) {
     for _ in 0..1000 {
@@ -949,7 +1076,7 @@ fn boards(tally: &mut Tally, dice: &mut Dice, seen: &mut [u64; 10]) {
             let s = grid.next(dice);
             let settings = if dice.one_in(20) { settings_of(&wild_pairs(dice)) } else { good };
             if compare_step(tally, &mut board, &settings, &s, &mut report) == 0 {
-                seen[report.status as usize] += 1;
+                note(seen, report.status.into());
             }
         }
         compare_save(tally, &board, &mut [0xAA; 51]);
@@ -964,14 +1091,14 @@ fn steps(tally: &mut Tally, dice: &mut Dice, seen: &mut [u64; 10]) {
         let settings = settings_of(&pairs);
         let s = sample(dice, true);
         let number = compare_step(tally, &mut wild_record(dice), &settings, &s, &mut wild_report(dice));
-        seen[number as usize] += 1;
+        note(seen, number.into());
         if i % 100 == 0 {
             tally.case();
         }
     }
     for n in 0..=64 {
         let s = vec![1000; n];
-        seen[compare_step(tally, &mut wild_record(dice), &settings_of(&good_pairs(dice)), &s, &mut wild_report(dice)) as usize] += 1;
+        note(seen, compare_step(tally, &mut wild_record(dice), &settings_of(&good_pairs(dice)), &s, &mut wild_report(dice)).into());
     }
     tally.case();
 }
@@ -1040,7 +1167,7 @@ fn rule_sample(dice: &mut Dice) -> Vec<u32> {
 
 /// An explained step of a lent record, over numbers that no step writes; then a step, explained or not, with the same sample.
 fn two_steps(tally: &mut Tally, mut record: Board, settings: &Settings, sample: &[u32]) {
-    let report = Report { status: 77, bits: 20_077, share: 20_077, recovery: 77, watts: 20_077, vars: -20_077 };
+    let report = Report { status: 77, recovery: 77, bits: 20_077, share: 20_077, watts: 20_077, vars: -20_077, held: 20_077, side: 77 };
     let mut explained = Explained { report, status_rule: 77, limit: 77, watts_rule: 77 };
     compare_explained(tally, &mut record, settings, sample, &mut explained);
     compare_step(tally, &mut record, settings, sample, &mut explained.report);
@@ -1129,14 +1256,41 @@ fn watts_rules(tally: &mut Tally, dice: &mut Dice) {
     }
 }
 
-/// Records of any kind into buffers of 0 to 51 bytes.
+/// Records of any kind into buffers of 0 to 54 bytes.
 fn saves(tally: &mut Tally, dice: &mut Dice, seen: &mut [u64; 10]) {
-    for length in 0..=51 {
+    for length in 0..=54 {
+        let mut right = 0;
         for _ in 0..200 {
-            let mut buffer: Vec<u8> = (0..length).map(|_| dice.next() as u8).collect();
-            seen[compare_save(tally, &wild_record(dice), &mut buffer) as usize] += 1;
+            let (mut buffer, differ) = (bytes(dice, length), tally.differ);
+            let number = compare_save(tally, &wild_record(dice), &mut buffer);
+            note(seen, number.into());
+            right += u64::from(tally.differ == differ && number == if length < IMAGE { 9 } else { 0 });
         }
         tally.case();
+        if (OLD_IMAGE..=IMAGE + 1).contains(&length) {
+            tally.reached("saving", &into(length), right);
+        }
+    }
+}
+
+/// A buffer of so many bytes, and what comes of it.
+fn into(length: usize) -> String {
+    format!("into {length} bytes {}", if length < IMAGE { "refused with 9" } else { "done" })
+}
+
+/// Short replays into buffers about the image's length.
+fn replays_into(tally: &mut Tally, dice: &mut Dice) {
+    for length in OLD_IMAGE..=IMAGE + 1 {
+        let mut right = 0;
+        for _ in 0..150 {
+            let mut grid = Grid::new(dice, 4);
+            let samples: Vec<u32> = (0..dice.below(12)).flat_map(|_| grid.next(dice)).collect();
+            let (settings, buffer, differ) = (settings_of(&good_pairs(dice)), bytes(dice, length), tally.differ);
+            let (found, _) = compare_replay(tally, &settings, &samples, &wild_report(dice), &buffer);
+            right += u64::from(tally.differ == differ && found.number == if length < IMAGE { 9 } else { 0 });
+        }
+        tally.case();
+        tally.reached("replay", &into(length), right);
     }
 }
 
@@ -1175,22 +1329,29 @@ fn sheets(tally: &mut Tally, dice: &mut Dice, seen: &mut [u64; 10]) {
         if dice.one_in(2) {
             sheet.extend_from_slice(&b"(at (1000 1000 1000) 60000 1 10000 10000)\n"[..dice.below(43) as usize]);
         }
-        seen[compare_sheet(tally, &mut settings_of(&wild_pairs(dice)), &sheet) as usize] += 1;
+        note(seen, compare_sheet(tally, &mut settings_of(&wild_pairs(dice)), &sheet).into());
         if i % 100 == 0 {
             tally.case();
         }
     }
     let sheet = other::DEFAULT_SHEET.as_bytes();
     for n in 0..=sheet.len() {
-        seen[compare_sheet(tally, &mut settings_of(&wild_pairs(dice)), &sheet[..n]) as usize] += 1;
+        note(seen, compare_sheet(tally, &mut settings_of(&wild_pairs(dice)), &sheet[..n]).into());
     }
     tally.case();
 }
 
+/// Reports with which a replay ends.
+const ENDS: [(&str, fn(&Report) -> bool); 3] = [
+    ("0 at the end", |last| last.recovery == 0),
+    ("1 to 39 at the end", |last| (1..RECOVERY_TOP).contains(&last.recovery)),
+    ("limits the watts at the end", limits),
+];
+
 /// Recordings of 0 to 1,000 numbers, with dips, samples that are refused and a last one cut short; settings good and not, buffers of 0 to 60
 /// bytes.
-fn replays(tally: &mut Tally, dice: &mut Dice, seen: &mut [u64; 10]) -> ([u64; 6], [u64; 3]) {
-    let (mut statuses, mut recoveries) = ([0; 6], [0; 3]);
+fn replays(tally: &mut Tally, dice: &mut Dice, seen: &mut [u64; 10]) -> ([u64; 6], [u64; ENDS.len()]) {
+    let (mut statuses, mut ends) = ([0; 6], [0; ENDS.len()]);
     for i in 0..4_000 {
         let pairs = if dice.one_in(8) { wild_pairs(dice) } else { good_pairs(dice) };
         let mut grid = Grid::new(dice, 60);
@@ -1201,22 +1362,21 @@ fn replays(tally: &mut Tally, dice: &mut Dice, seen: &mut [u64; 10]) -> ([u64; 6
             samples.extend(s);
         }
         samples.truncate(if i <= 300 { i } else { dice.below(1001) as usize });
-        let length = if dice.one_in(8) { dice.below(IMAGE) } else { IMAGE + dice.below(15) };
-        let buffer: Vec<u8> = (0..length).map(|_| dice.next() as u8).collect();
+        let length = if dice.one_in(8) { dice.below(IMAGE as u64) } else { IMAGE as u64 + dice.below(12) };
+        let (buffer, differ) = (bytes(dice, length as usize), tally.differ);
         let (found, last) = compare_replay(tally, &settings_of(&pairs), &samples, &wild_report(dice), &buffer);
-        seen[found.number as usize] += 1;
-        if found.number == 0 {
+        note(seen, found.number.into());
+        if found.number == 0 && tally.differ == differ {
             statuses[last.status as usize] += 1;
-            let ends = [last.recovery == 0, (1..RECOVERY_TOP).contains(&last.recovery), limits(&last)];
-            for (count, end) in recoveries.iter_mut().zip(ends) {
-                *count += u64::from(end);
+            for (count, (_, shown)) in ends.iter_mut().zip(ENDS) {
+                *count += u64::from(shown(&last));
             }
         }
         if i % 20 == 19 {
             tally.case();
         }
     }
-    (statuses, recoveries)
+    (statuses, ends)
 }
 
 /// The longest source and target of an image that is carried over.
@@ -1226,42 +1386,59 @@ fn bytes(dice: &mut Dice, length: usize) -> Vec<u8> {
     (0..length).map(|_| dice.next() as u8).collect()
 }
 
-/// Any byte but a full recovery count.
-fn any_but_full(dice: &mut Dice) -> u8 {
-    dice.within(i64::from(RECOVERY_TOP) + 1, i64::from(RECOVERY_TOP) + 255) as u8
+/// Bytes of a source, those after an old image's the ones of an image that can be carried back, as far as it is long enough.
+fn recovered(dice: &mut Dice, length: usize) -> Vec<u8> {
+    let mut source = bytes(dice, length);
+    for (byte, end) in source.iter_mut().skip(OLD_IMAGE).zip(END) {
+        *byte = end;
+    }
+    source
 }
 
-/// Sources of 0 to 60 bytes into targets of 0 to 60, both ways, the byte after an old image's 40 and another; then every value of that byte.
+/// So many sources of this length, both ways, into targets of this one: with that end, with one byte of it off, and with any.
+fn carry_both(tally: &mut Tally, dice: &mut Dice, length: usize, room: usize, times: usize) {
+    for k in 0..times {
+        let mut source = if k % 3 == 2 { bytes(dice, length) } else { recovered(dice, length) };
+        if k % 3 == 1 && length > OLD_IMAGE {
+            let at = dice.within(OLD_IMAGE as i64, length.min(IMAGE) as i64 - 1) as usize;
+            source[at] = source[at].wrapping_add(dice.within(1, 255) as u8);
+        }
+        compare_carry(tally, true, &source, &bytes(dice, room));
+        compare_carry(tally, false, &source, &bytes(dice, room));
+    }
+}
+
+/// Sources of 0 to 60 bytes into targets of 0 to 60; more of them about the lengths of images; then every value of each byte of the end.
 fn carries(tally: &mut Tally, dice: &mut Dice) {
     for length in 0..=LONGEST {
         for room in 0..=LONGEST {
-            for k in 0..6 {
-                let mut source = bytes(dice, length);
-                if length > OLD_IMAGE {
-                    source[OLD_IMAGE] = if k % 2 == 1 { RECOVERY_TOP } else { any_but_full(dice) };
-                }
-                compare_carry(tally, true, &source, &bytes(dice, room));
-                compare_carry(tally, false, &source, &bytes(dice, room));
-            }
+            carry_both(tally, dice, length, room, 6);
         }
         tally.case();
     }
-    for last in 0..=255 {
-        for room in 0..=LONGEST {
-            let mut source = bytes(dice, IMAGE as usize);
-            source[OLD_IMAGE] = last;
-            compare_carry(tally, false, &source, &bytes(dice, room));
+    for length in OLD_IMAGE - 1..=IMAGE + 1 {
+        for room in OLD_IMAGE - 1..=IMAGE + 1 {
+            carry_both(tally, dice, length, room, 330);
+            tally.case();
         }
-        tally.case();
+    }
+    for at in OLD_IMAGE..IMAGE {
+        for value in 0..=255 {
+            for room in 0..=LONGEST {
+                let mut source = recovered(dice, IMAGE);
+                source[at] = value;
+                compare_carry(tally, false, &source, &bytes(dice, room));
+            }
+            tally.case();
+        }
     }
 }
 
 /// Lengths whose low 8 or 16 bits are those of an image: a length is not cut on its way.
 fn long_carries(tally: &mut Tally, dice: &mut Dice) {
     for more in [256, 65_536] {
-        for length in [OLD_IMAGE, IMAGE as usize] {
-            let mut source = bytes(dice, length + more);
-            source[OLD_IMAGE] = RECOVERY_TOP;
+        for length in [OLD_IMAGE, IMAGE] {
+            let source = recovered(dice, length + more);
             for forward in [true, false] {
                 compare_carry(tally, forward, &source, &bytes(dice, LONGEST));
                 compare_carry(tally, forward, &source[..length], &bytes(dice, more));
@@ -1275,23 +1452,30 @@ fn long_carries(tally: &mut Tally, dice: &mut Dice) {
 /// Old images carried forward and back; images of records carried back and, where that is allowed, forward again. Gives how often each was what it had been.
 fn round_trips(tally: &mut Tally, dice: &mut Dice) -> (u64, u64) {
     let (mut old_new_old, mut new_old_new) = (0, 0);
-    let image = IMAGE as usize;
     for _ in 0..2_000 {
         let old = bytes(dice, OLD_IMAGE);
-        let (_, there) = compare_carry(tally, true, &old, &bytes(dice, image));
+        let (_, there) = compare_carry(tally, true, &old, &bytes(dice, IMAGE));
         let (number, again) = compare_carry(tally, false, &there, &bytes(dice, OLD_IMAGE));
         tally.call(number == 0 && again == old, || format!("{old:?} forward and back: {again:?}"));
         old_new_old += u64::from(number == 0 && again == old);
         let mut record = wild_record(dice);
-        if dice.one_in(2) {
+        // each of the three that go into the end is as it must be, but for some
+        if !dice.one_in(5) {
             record.recovery = RECOVERY_TOP;
         }
-        let mut new = vec![0; image];
+        if !dice.one_in(5) {
+            record.side = library::NO_SIDE;
+        }
+        if !dice.one_in(5) {
+            record.held = 0;
+        }
+        let back = (record.recovery, record.side, record.held) == (RECOVERY_TOP, library::NO_SIDE, 0);
+        let mut new = vec![0; IMAGE];
         compare_save(tally, &record, &mut new);
         let (number, there) = compare_carry(tally, false, &new, &bytes(dice, OLD_IMAGE));
-        tally.call((number == 0) == (record.recovery == RECOVERY_TOP), || format!("the image of {record:?} back: {number}"));
+        tally.call((number == 0) == back, || format!("the image of {record:?} back: {number}"));
         if number == 0 {
-            let (number, again) = compare_carry(tally, true, &there, &bytes(dice, image));
+            let (number, again) = compare_carry(tally, true, &there, &bytes(dice, IMAGE));
             tally.call(number == 0 && again == new, || format!("{new:?} back and forward: {again:?}"));
             new_old_new += u64::from(number == 0 && again == new);
         }
@@ -1315,7 +1499,13 @@ fn main() {
     status_rules(&mut tally, &mut Dice(86));
     watts_rules(&mut tally, &mut Dice(88));
     far_outside(&mut tally, &mut Dice(5_762));
-    println!("explained steps: every other of these, two times 20000 of lent records for the rules, and 12800 with edges of the frequency:");
+    println!("droop: boards from fresh, and lent records in events, at their ends and at returns, these and all steps before:");
+    droops::walks(&mut tally, &mut Dice(59_964));
+    droops::events(&mut tally, &mut Dice(60_036));
+    droops::returns(&mut tally, &mut Dice(30_000));
+    droops::powers(&mut tally, &mut Dice(8));
+    std::mem::take(&mut tally.droops).print(&mut tally);
+    println!("explained steps: every other of these, lent records for the rules, and 12800 with edges of the frequency:");
     std::mem::take(&mut tally.rules).print(&mut tally);
     println!("steps at the edges of the frequency's regions, all of these:");
     let edges = std::mem::take(&mut tally.edges);
@@ -1333,15 +1523,17 @@ fn main() {
     sheets(&mut tally, &mut Dice(13), &mut seen);
     println!("sheets: numbers answered {:?}", &seen[..4]);
     let mut seen = [0; 10];
-    let (statuses, recoveries) = replays(&mut tally, &mut Dice(7), &mut seen);
+    let (statuses, ends) = replays(&mut tally, &mut Dice(7), &mut seen);
     println!("replays: numbers answered {:?}, statuses at the end {:?}", seen, statuses);
-    for (name, count) in ["0 at the end", "1 to 39 at the end", "limits the watts at the end"].into_iter().zip(recoveries) {
+    for ((name, _), count) in ENDS.into_iter().zip(ends) {
         tally.reached("recovery", name, count);
     }
+    droops::replays(&mut tally, &mut Dice(6));
+    replays_into(&mut tally, &mut Dice(49));
     carries(&mut tally, &mut Dice(4_546));
     long_carries(&mut tally, &mut Dice(65_581));
     let (old_new_old, new_old_new) = round_trips(&mut tally, &mut Dice(4_645));
-    println!("images carried over: sources and targets of 0 to {LONGEST} bytes, every last byte, there and back:");
+    println!("images carried over: sources and targets of 0 to {LONGEST} bytes, every value of each byte at the end, there and back:");
     for ((name, _), count) in CARRYINGS.into_iter().zip(tally.carryings) {
         tally.reached("carrying", name, count);
     }

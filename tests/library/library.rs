@@ -39,10 +39,12 @@ pub struct Settings {
 pub struct Board {
     pub status: u8,
     pub recovery: u8,
+    pub side: u8,
     pub counters: [u32; 9],
     pub ramp: u32,
     pub watts: u16,
     pub vars: i16,
+    pub held: u16,
 }
 
 #[repr(C)]
@@ -54,7 +56,14 @@ pub struct Report {
     pub share: u16,
     pub watts: u16,
     pub vars: i16,
+    pub held: u16,
+    pub side: u8,
 }
+
+/// The sides of a droop event.
+pub const NO_SIDE: u8 = 0;
+pub const HIGH_SIDE: u8 = 1;
+pub const LOW_SIDE: u8 = 2;
 
 /// The rules that held a status.
 pub const STATUS_BY_PERMISSION: u8 = 1;
@@ -73,6 +82,7 @@ pub const WATTS_BY_SHARE: u8 = 4;
 pub const WATTS_BY_CURVE: u8 = 5;
 pub const WATTS_BY_NAMEPLATE: u8 = 6;
 pub const WATTS_BY_RECOVERY: u8 = 7;
+pub const WATTS_BY_DROOP: u8 = 8;
 
 #[repr(C)]
 #[derive(Clone, Copy, Debug, PartialEq)]

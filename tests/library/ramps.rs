@@ -106,11 +106,11 @@ fn climbed(tally: &mut Tally, settings: &Settings, count: u32) -> (Board, Report
 /// In which bytes the images differ.
 fn differing(tally: &mut Tally, pair: &[(Board, Report); 2]) -> Vec<usize> {
     let [one, other] = [&pair[0].0, &pair[1].0].map(|board| {
-        let mut image = [0; IMAGE as usize];
+        let mut image = [0; IMAGE];
         compare_save(tally, board, &mut image);
         image
     });
-    (0..IMAGE as usize).filter(|&i| one[i] != other[i]).collect()
+    (0..IMAGE).filter(|&i| one[i] != other[i]).collect()
 }
 
 /// The images differ in the ramp count's bytes, and nowhere else.

@@ -2,18 +2,18 @@
 -- Assumes nothing.
 use mathlib.Core.Path.{_≡_, refl, sym, ap, _∙_}
 use mathlib.Core.Bool.{Bool, true}
-use mathlib.Core.List.{List, [], _∷_, _++_}
+use mathlib.Core.List.{List, _++_}
 use Prim.Native.Nat.{ℕ, _≤_, _<_}
 use native.Mathlib.Omega.{arith}
-use borrow.Author.Tests.{eqb-true, eq-eqb, le-leb}
+use borrow.Author.Tests.{eq-eqb, le-leb}
 use lib.Dec.{eqb, leb}
-use lib.ListN.{length, take, drop, getD, length-append}
-use lib.Seq.{length-take-le, take-at, drop-at, getD-at, take-suc, take-all}
-use Rattle.rules.specs.Service.{recoveryTop}
+use lib.ListN.{length, take, drop, take-append-drop, length-append}
+use lib.Seq.{length-take-le, take-at, drop-at}
 use Rattle.rules.specs.Images.{imageLength}
 use Rattle.carryover.specs.CarryOver.{oldLength, addedBytes, carriedForward, carriedBack, hasAdded, carryNumber, carryAnswer, forwardAnswer, backAnswer, carriedInto, forwardInto, backInto}
 use Rattle.carryover.specs.declared.CarryAnswer.{CarryAnswer}
 use Rattle.carryover.specs.Carries.{ourForward, ourBack, CarryRefusedRightly, newIn, oldIn, RoundTrips}
+use Rattle.carryover.proofs.Added.{added-true, true-added}
 use Rattle.carryover.proofs.Outcomes.{clear, forward-first, back-first}
 
 -- ---- where nothing is refused
@@ -36,12 +36,12 @@ module _ (source target : List ℕ) where
       all-passed (eqb (length source) oldLength) true (leb imageLength (length target)) (eq-eqb (length source) oldLength measured) refl
       (le-leb imageLength (length target) room)
 
-  back-written : length source ≡ imageLength → getD source oldLength 0 ≡ recoveryTop → oldLength ≤ length target
+  back-written : length source ≡ imageLength → drop oldLength source ≡ addedBytes → oldLength ≤ length target
       → backAnswer source target ≡ CarryAnswer.Written
   unfolding backAnswer
-  back-written measured full room =
+  back-written measured added room =
       all-passed (eqb (length source) imageLength) (hasAdded source) (leb oldLength (length target)) (eq-eqb (length source) imageLength measured)
-      (eq-eqb (getD source oldLength 0) recoveryTop full) (le-leb oldLength (length target) room)
+      (true-added source added) (le-leb oldLength (length target) room)
 
   -- and what a number of 0 tells
   pub forward-told : carryNumber (forwardAnswer source target) ≡ 0 → (length source ≡ oldLength) × (imageLength ≤ length target)
@@ -49,11 +49,11 @@ module _ (source target : List ℕ) where
   forward-told none = let h = clear source target oldLength imageLength true (zero-written (forwardAnswer source target) none) in (h .0, h .2)
 
   pub back-told : carryNumber (backAnswer source target) ≡ 0
-      → (length source ≡ imageLength) × (getD source oldLength 0 ≡ recoveryTop) × (oldLength ≤ length target)
+      → (length source ≡ imageLength) × (drop oldLength source ≡ addedBytes) × (oldLength ≤ length target)
   unfolding backAnswer
   back-told none =
       let h = clear source target imageLength oldLength (hasAdded source) (zero-written (backAnswer source target) none) in
-      (h .0, eqb-true (getD source oldLength 0) recoveryTop (h .1), h .2)
+      (h .0, added-true source (h .1), h .2)
 
 -- ---- the images
 
@@ -63,9 +63,9 @@ forward-length source e = length-append source addedBytes ∙ rw e
 back-length : (source : List ℕ) → length source ≡ imageLength → length (carriedBack source) ≡ oldLength
 back-length source e = length-take-le oldLength source (omega (arith, e))
 
--- an image of this firmware: its old bytes, and the byte behind them
-pub parts : (new : List ℕ) → length new ≡ imageLength → new ≡ take oldLength new ++ (getD new oldLength 0 ∷ [])
-parts new e = sym (take-all imageLength new (omega (arith, e))) ∙ take-suc new oldLength 0 (omega (arith, e))
+-- an image that can be carried back is what its old bytes are carried forward to
+pub whole : (new : List ℕ) → drop oldLength new ≡ addedBytes → carriedForward (carriedBack new) ≡ new
+whole new added = ap (λ (l : List ℕ). take oldLength new ++ l) (sym added) ∙ take-append-drop oldLength new
 
 module _ (a : CarryAnswer) (image target : List ℕ) where
   into : a ≡ CarryAnswer.Written → carriedInto a image target ≡ image ++ drop (length image) target
@@ -85,16 +85,16 @@ module _ (source target : List ℕ) where
   unfolding ourForward
   forward-none measured room = ap carryNumber (forward-written source target measured room)
 
-  pub back-none : length source ≡ imageLength → getD source oldLength 0 ≡ recoveryTop → oldLength ≤ length target → ourBack source target .number ≡ 0
+  pub back-none : length source ≡ imageLength → drop oldLength source ≡ addedBytes → oldLength ≤ length target → ourBack source target .number ≡ 0
   unfolding ourBack
-  back-none measured full room = ap carryNumber (back-written source target measured full room)
+  back-none measured added room = ap carryNumber (back-written source target measured added room)
 
   pub new-is : length source ≡ oldLength → imageLength ≤ length target → newIn (ourForward source target) ≡ carriedForward source
   unfolding ourForward forwardInto
   new-is measured room =
       image-in (forwardAnswer source target) (carriedForward source) target imageLength (forward-written source target measured room) (forward-length source measured)
 
-  pub told : ourBack source target .number ≡ 0 → (length source ≡ imageLength) × (getD source oldLength 0 ≡ recoveryTop) × (oldLength ≤ length target)
+  pub told : ourBack source target .number ≡ 0 → (length source ≡ imageLength) × (drop oldLength source ≡ addedBytes) × (oldLength ≤ length target)
   unfolding ourBack
   told none = back-told source target none
 
@@ -108,7 +108,7 @@ there-and-back : (old t u : List ℕ) → length old ≡ oldLength → imageLeng
     → (ourForward old t .number ≡ 0) × (ourBack (newIn (ourForward old t)) u .number ≡ 0) × (oldIn (ourBack (newIn (ourForward old t)) u) ≡ old)
 there-and-back old t u measured room room′ =
     let new = new-is old t measured room in
-    let none = back-none (carriedForward old) u (forward-length old measured) (getD-at old recoveryTop [] 0 oldLength measured) room′ in
+    let none = back-none (carriedForward old) u (forward-length old measured) (drop-at old addedBytes oldLength measured) room′ in
     (forward-none old t measured room, rw new none, rw new (old-is (carriedForward old) u none ∙ take-at old addedBytes oldLength measured))
 
 back-and-there : (new t u : List ℕ) → ourBack new t .number ≡ 0 → imageLength ≤ length u
@@ -117,15 +117,14 @@ back-and-there new t u none room =
     let h = told new t none in
     let old = old-is new t none in
     let measured = back-length new (h .0) in
-    let whole = sym (parts new (h .0) ∙ ap (λ (b : ℕ). take oldLength new ++ (b ∷ [])) (h .1)) in
-    (rw old (forward-none (carriedBack new) u measured room), rw old (new-is (carriedBack new) u measured room ∙ whole))
+    (rw old (forward-none (carriedBack new) u measured room), rw old (new-is (carriedBack new) u measured room ∙ whole new (h .1)))
 
 pub round-trips : RoundTrips ourForward ourBack
 round-trips =
     record {
       old-new-old = there-and-back;
       new-old-new = back-and-there;
-      allowed = λ new t measured room. (λ none. told new t none .1, λ full. back-none new t measured full room);
+      allowed = λ new t measured room. (λ none. told new t none .1, λ added. back-none new t measured added room);
     }
 
 -- ---- refusals

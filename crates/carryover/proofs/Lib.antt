@@ -1,4 +1,5 @@
 pub mod Copies
+pub mod Added
 pub mod Outcomes
 pub mod Carrying
 pub mod Numbered

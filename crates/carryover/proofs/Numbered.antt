@@ -3,14 +3,15 @@
 use mathlib.Core.Path.{_≡_, refl, sym}
 use mathlib.Core.Bool.{Bool, true, false, true≢false}
 use mathlib.Core.Logic.{_↔_}
-use mathlib.Core.List.{List}
+use mathlib.Core.List.{List, [], _∷_}
 use Prim.Native.Nat.{ℕ, _<_}
 use native.Mathlib.Omega.{arith}
 use borrow.Author.Tests.{eqb-true, eqb-false, leb-false, eq-eqb, ne-eqb, lt-leb}
 use lib.Dec.{eqb, leb}
-use lib.ListN.{length, getD}
+use lib.ListN.{length, drop}
 use Rattle.carryover.specs.CarryOver.{hasAdded, carryNumber, carryAnswer, forwardAnswer, backAnswer}
 use Rattle.carryover.specs.Carries.{ourForward, ourBack, CarryNumbered}
+use Rattle.carryover.proofs.Added.{added-true, true-added, added-false, false-added}
 use Rattle.carryover.proofs.Carrying.{forward-told, told, forward-none, back-none}
 
 -- ---- by the three tests
@@ -36,43 +37,43 @@ by-9 true true false = (λ e. (refl, refl, refl), λ e. refl)
 by-9 true false room = (λ e. absurd (omega (arith, e)), λ e. absurd (true≢false (sym (e .1))))
 by-9 false added room = (λ e. absurd (omega (arith, e)), λ e. absurd (true≢false (sym (e .0))))
 
--- ---- by the lengths, and the recovery byte
+-- ---- by the lengths, and the bytes that are appended
 
 module _ (source target : List ℕ) where
   forward-10 : (ourForward source target .number ≡ 10) ↔ (¬ (length source ≡ 45))
   unfolding ourForward forwardAnswer
   forward-10 =
-      let h = by-10 (eqb (length source) 45) true (leb 46 (length target)) in
+      let h = by-10 (eqb (length source) 45) true (leb 49 (length target)) in
       (λ e. eqb-false (length source) 45 (h .0 e), λ other. h .1 (ne-eqb (length source) 45 other))
 
-  forward-9 : (ourForward source target .number ≡ 9) ↔ ((length source ≡ 45) × (length target < 46))
+  forward-9 : (ourForward source target .number ≡ 9) ↔ ((length source ≡ 45) × (length target < 49))
   unfolding ourForward forwardAnswer
   forward-9 =
-      let h = by-9 (eqb (length source) 45) true (leb 46 (length target)) in (
-        λ e. (eqb-true (length source) 45 (h .0 e .0), leb-false 46 (length target) (h .0 e .2)),
-        λ p. h .1 (eq-eqb (length source) 45 (p .0), refl, lt-leb 46 (length target) (p .1)),
+      let h = by-9 (eqb (length source) 45) true (leb 49 (length target)) in (
+        λ e. (eqb-true (length source) 45 (h .0 e .0), leb-false 49 (length target) (h .0 e .2)),
+        λ p. h .1 (eq-eqb (length source) 45 (p .0), refl, lt-leb 49 (length target) (p .1)),
       )
 
-  back-10 : (ourBack source target .number ≡ 10) ↔ (¬ (length source ≡ 46))
+  back-10 : (ourBack source target .number ≡ 10) ↔ (¬ (length source ≡ 49))
   unfolding ourBack backAnswer
   back-10 =
-      let h = by-10 (eqb (length source) 46) (hasAdded source) (leb 45 (length target)) in
-      (λ e. eqb-false (length source) 46 (h .0 e), λ other. h .1 (ne-eqb (length source) 46 other))
+      let h = by-10 (eqb (length source) 49) (hasAdded source) (leb 45 (length target)) in
+      (λ e. eqb-false (length source) 49 (h .0 e), λ other. h .1 (ne-eqb (length source) 49 other))
 
-  back-11 : (ourBack source target .number ≡ 11) ↔ ((length source ≡ 46) × (¬ (getD source 45 0 ≡ 40)))
+  back-11 : (ourBack source target .number ≡ 11) ↔ ((length source ≡ 49) × (¬ (drop 45 source ≡ 40 ∷ 0 ∷ 0 ∷ 0 ∷ [])))
   unfolding ourBack backAnswer
   back-11 =
-      let h = by-11 (eqb (length source) 46) (hasAdded source) (leb 45 (length target)) in (
-        λ e. (eqb-true (length source) 46 (h .0 e .0), eqb-false (getD source 45 0) 40 (h .0 e .1)),
-        λ p. h .1 (eq-eqb (length source) 46 (p .0), ne-eqb (getD source 45 0) 40 (p .1)),
+      let h = by-11 (eqb (length source) 49) (hasAdded source) (leb 45 (length target)) in (
+        λ e. (eqb-true (length source) 49 (h .0 e .0), added-false source (h .0 e .1)),
+        λ p. h .1 (eq-eqb (length source) 49 (p .0), false-added source (p .1)),
       )
 
-  back-9 : (ourBack source target .number ≡ 9) ↔ ((length source ≡ 46) × (getD source 45 0 ≡ 40) × (length target < 45))
+  back-9 : (ourBack source target .number ≡ 9) ↔ ((length source ≡ 49) × (drop 45 source ≡ 40 ∷ 0 ∷ 0 ∷ 0 ∷ []) × (length target < 45))
   unfolding ourBack backAnswer
   back-9 =
-      let h = by-9 (eqb (length source) 46) (hasAdded source) (leb 45 (length target)) in (
-        λ e. (eqb-true (length source) 46 (h .0 e .0), eqb-true (getD source 45 0) 40 (h .0 e .1), leb-false 45 (length target) (h .0 e .2)),
-        λ p. h .1 (eq-eqb (length source) 46 (p .0), eq-eqb (getD source 45 0) 40 (p .1), lt-leb 45 (length target) (p .2)),
+      let h = by-9 (eqb (length source) 49) (hasAdded source) (leb 45 (length target)) in (
+        λ e. (eqb-true (length source) 49 (h .0 e .0), added-true source (h .0 e .1), leb-false 45 (length target) (h .0 e .2)),
+        λ p. h .1 (eq-eqb (length source) 49 (p .0), true-added source (p .1), lt-leb 45 (length target) (p .2)),
       )
 
 pub numbered : CarryNumbered ourForward ourBack

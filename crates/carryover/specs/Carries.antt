@@ -4,14 +4,15 @@ use mathlib.Core.Path.{_≡_}
 use mathlib.Core.Logic.{_↔_}
 use mathlib.Core.List.{List, [], _∷_, _++_, map}
 use Prim.Native.Nat.{ℕ, _≤_, _<_}
-use lib.ListN.{length, take, drop, getD}
+use lib.ListN.{length, take, drop}
+use Rattle.rules.specs.Droop.{noSide}
 use Rattle.rules.specs.Service.{recoveryTop}
 use Rattle.rules.specs.Images.{Field, field, fieldBytes, twosComplement, image, imageLength}
 use Rattle.rules.specs.declared.Settings.{Settings}
 use Rattle.rules.specs.declared.Board.{Board}
 use Rattle.claims.specs.Calls.{Call, Program, runOf, Under}
 use Rattle.claims.specs.FirstCause.{first}
-use Rattle.carryover.specs.CarryOver.{oldLength, carryNumber, forwardAnswer, backAnswer, forwardInto, backInto, forwardCauses, backCauses}
+use Rattle.carryover.specs.CarryOver.{oldLength, addedBytes, carryNumber, forwardAnswer, backAnswer, forwardInto, backInto, forwardCauses, backCauses}
 
 -- what comes of a call: the number that it answers, and the target as it leaves it
 pub record CarryOutcome : Type 0 where
@@ -48,14 +49,15 @@ pub record CarryRefusedRightly (forward back : CarryOperation) : Type 0 where
 -- the same numbers, each by what it is given for (spec 9.8)
 pub record CarryNumbered (forward back : CarryOperation) : Type 0 where
   pub forward-10 : (source target : List ℕ) → (forward source target .number ≡ 10) ↔ (¬ (length source ≡ 45))
-  pub forward-9 : (source target : List ℕ) → (forward source target .number ≡ 9) ↔ ((length source ≡ 45) × (length target < 46))
-  pub forward-0 : (source target : List ℕ) → (forward source target .number ≡ 0) ↔ ((length source ≡ 45) × (46 ≤ length target))
-  pub back-10 : (source target : List ℕ) → (back source target .number ≡ 10) ↔ (¬ (length source ≡ 46))
-  pub back-11 : (source target : List ℕ) → (back source target .number ≡ 11) ↔ ((length source ≡ 46) × (¬ (getD source 45 0 ≡ 40)))
+  pub forward-9 : (source target : List ℕ) → (forward source target .number ≡ 9) ↔ ((length source ≡ 45) × (length target < 49))
+  pub forward-0 : (source target : List ℕ) → (forward source target .number ≡ 0) ↔ ((length source ≡ 45) × (49 ≤ length target))
+  pub back-10 : (source target : List ℕ) → (back source target .number ≡ 10) ↔ (¬ (length source ≡ 49))
+  pub back-11 : (source target : List ℕ)
+      → (back source target .number ≡ 11) ↔ ((length source ≡ 49) × (¬ (drop 45 source ≡ 40 ∷ 0 ∷ 0 ∷ 0 ∷ [])))
   pub back-9 : (source target : List ℕ)
-      → (back source target .number ≡ 9) ↔ ((length source ≡ 46) × (getD source 45 0 ≡ 40) × (length target < 45))
+      → (back source target .number ≡ 9) ↔ ((length source ≡ 49) × (drop 45 source ≡ 40 ∷ 0 ∷ 0 ∷ 0 ∷ []) × (length target < 45))
   pub back-0 : (source target : List ℕ)
-      → (back source target .number ≡ 0) ↔ ((length source ≡ 46) × (getD source 45 0 ≡ 40) × (45 ≤ length target))
+      → (back source target .number ≡ 0) ↔ ((length source ≡ 49) × (drop 45 source ≡ 40 ∷ 0 ∷ 0 ∷ 0 ∷ []) × (45 ≤ length target))
 
 -- ---- there and back
 
@@ -74,12 +76,12 @@ pub record RoundTrips (forward back : CarryOperation) : Type 0 where
   -- a new image that can be carried back can be carried forward again, and is what it was
   pub new-old-new : (new t u : List ℕ) → back new t .number ≡ 0 → imageLength ≤ length u
       → (forward (oldIn (back new t)) u .number ≡ 0) × (newIn (forward (oldIn (back new t)) u) ≡ new)
-  -- a new image can be carried back exactly where its recovery byte is 40
-  pub allowed : (new t : List ℕ) → length new ≡ imageLength → oldLength ≤ length t → (back new t .number ≡ 0) ↔ (getD new oldLength 0 ≡ recoveryTop)
+  -- a new image can be carried back exactly where its last bytes are those that carrying forward appends: 40, 0, 0, 0
+  pub allowed : (new t : List ℕ) → length new ≡ imageLength → oldLength ≤ length t → (back new t .number ≡ 0) ↔ (drop oldLength new ≡ addedBytes)
 
 -- ---- the images of records
 
--- spec 9.5: an old image has the fields of spec 9.1, but for the recovery count
+-- spec 9.5: an old image has the fields of spec 9.1 before the recovery count
 unfoldable pub oldFields : Board → List Field
 oldFields b =
     field 1 (b .status)
@@ -88,28 +90,38 @@ oldFields b =
 unfoldable pub oldImage : Board → List ℕ
 oldImage b = fieldBytes (oldFields b)
 
--- a record with its recovery count full
+-- a record with its recovery count full, on no side, and with no held power
 abbrev pub recovered : Board → Board
 recovered b =
-    record { status = b .status; counters = b .counters; ramp = b .ramp; watts = b .watts; vars = b .vars; recovery = recoveryTop }
+    record {
+      status = b .status;
+      counters = b .counters;
+      ramp = b .ramp;
+      watts = b .watts;
+      vars = b .vars;
+      recovery = recoveryTop;
+      side = noSide;
+      held = 0;
+    }
 
--- of a record with nine counters and a recovery count of 8 bits
+-- of a record with nine counters, a recovery count and a side of 8 bits, and a held power of 16
 pub record CarriesRecords (forward back : CarryOperation) : Type 0 where
-  -- its old image becomes the image of the record with a full recovery count
+  -- its old image becomes the image of the record with a full recovery count, no side and no held power
   pub forward-image : (b : Board) (t : List ℕ) → length (b .counters) ≡ 9 → imageLength ≤ length t
       → (forward (oldImage b) t .number ≡ 0) × (newIn (forward (oldImage b) t) ≡ image (recovered b))
-  -- its image can be carried back exactly where its recovery count is full, and becomes its old image
-  pub back-allowed : (b : Board) (t : List ℕ) → length (b .counters) ≡ 9 → b .recovery < 256 → oldLength ≤ length t
-      → (back (image b) t .number ≡ 0) ↔ (b .recovery ≡ recoveryTop)
+  -- its image can be carried back exactly where it has these itself, and becomes its old image
+  pub back-allowed : (b : Board) (t : List ℕ) → length (b .counters) ≡ 9 → b .recovery < 256 → b .side < 256 → b .held < 65536 → oldLength ≤ length t
+      → (back (image b) t .number ≡ 0) ↔ ((b .recovery ≡ recoveryTop) × (b .side ≡ noSide) × (b .held ≡ 0))
   pub back-image : (b : Board) (t : List ℕ) → length (b .counters) ≡ 9 → back (image b) t .number ≡ 0 → oldIn (back (image b) t) ≡ oldImage b
 
 -- ---- the images of histories
 
 -- of a board program, after any list of calls on one record from its beginning (spec 12.1), under one sheet
 pub record CarriesHistoriesBack (back : CarryOperation) (p : Program) (st : Settings) : Type 0 where
-  -- its image can be carried back exactly where the last report shows a full recovery count
+  -- its image can be carried back exactly where the last report shows a full recovery count, no side and no held power
   pub shown : (cs : List Call) → Under st cs → (t : List ℕ) → oldLength ≤ length t
-      → (back (image (runOf p cs .board)) t .number ≡ 0) ↔ (runOf p cs .report .recovery ≡ recoveryTop)
+      → (back (image (runOf p cs .board)) t .number ≡ 0)
+      ↔ ((runOf p cs .report .recovery ≡ recoveryTop) × (runOf p cs .report .side ≡ noSide) × (runOf p cs .report .held ≡ 0))
   -- and so where it says tripped
   pub tripped : (cs : List Call) → Under st cs → (t : List ℕ) → oldLength ≤ length t → runOf p cs .report .status ≡ 0
       → back (image (runOf p cs .board)) t .number ≡ 0

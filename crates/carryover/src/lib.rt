@@ -1,4 +1,4 @@
-// Spec 9.5 to 9.8: images carried over from the old firmware, whose images have 45 bytes and no recovery count, and back to it.
+// Spec 9.5 to 9.8: images carried over from the old firmware, whose images have 45 bytes and end before the recovery count, and back to it.
 ghost use mathlib.Core.Path.{_≡_};
 ghost use Prim.Native.Nat.{_≤_};
 ghost use lib.ListN.{length, take};
@@ -48,14 +48,24 @@ fn checked(measured: bool, added: bool, room: bool) -> CarryAnswer
     CarryAnswer::Written
 }
 
-// What stands in a source behind the bytes of an old image is what carrying forward appends: a full recovery count.
+// What stands in a source behind the bytes of an old image is what carrying forward appends: a full recovery count, no side, and a held
+// power of 0 in two bytes.
 fn has_added(source: &[u8]) -> bool
     ensures { λ r. ⌜ r ≡ hasAdded (now (source .entry)) ⌝ }
 {
-    if source.len() <= OLD_LENGTH {
+    if source.len() != IMAGE_LENGTH {
         return false;
     }
-    source[OLD_LENGTH] == RECOVERY_TOP
+    if source[OLD_LENGTH] != RECOVERY_TOP {
+        return false;
+    }
+    if source[46] != 0 {
+        return false;
+    }
+    if source[47] != 0 {
+        return false;
+    }
+    source[48] == 0
 }
 
 // The bytes that both images have, at the front of the target.
@@ -85,10 +95,13 @@ pub fn forward(source: &[u8], target: &mut [u8]) -> CarryAnswer
     };
     copy_old(source, target);
     target[OLD_LENGTH] = RECOVERY_TOP;
+    target[46] = 0;
+    target[47] = 0;
+    target[48] = 0;
     CarryAnswer::Written
 }
 
-// An image of this firmware, its recovery count full, as one of the old firmware, at the front of a lent target; likewise.
+// An image of this firmware that has what carrying forward appends as one of the old firmware, at the front of a lent target; likewise.
 pub fn back(source: &[u8], target: &mut [u8]) -> CarryAnswer
     ensures { λ r. ⌜ (r ≡ backAnswer (now (source .entry)) (now (target .entry)))
         × (now (target .exit) ≡ backInto (now (source .entry)) (now (target .entry))) ⌝ }

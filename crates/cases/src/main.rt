@@ -154,14 +154,16 @@ fn saved_number(answer: Saved) -> u64 {
     }
 }
 
-// The board after one step in service with vars on the falling side.
+// The board after one step in service with vars on the falling side, and one more in a droop event.
 fn exporting() -> Board {
     let s = sheet();
     let calm = [1000, 1000, 1000, 60000, 1, 10000, 10000];
     let t = service::step::step(service::fresh(), s, &calm);
     let falling = [1041, 1041, 1041, 60000, 1, 10000, 10000];
     let u = service::step::step(t.board, s, &falling);
-    u.board
+    let event = [1041, 1041, 1041, 60049, 1, 10000, 10000];
+    let v = service::step::step(u.board, s, &event);
+    v.board
 }
 
 fn show_bytes(bytes: &[u8]) {
@@ -174,15 +176,15 @@ fn show_bytes(bytes: &[u8]) {
 
 fn images() {
     let b = exporting();
-    let mut short = [170u8; 45];
+    let mut short = [170u8; 48];
     show(
-        b"save into 45 bytes: ",
+        b"save into 48 bytes: ",
         saved_number(image::save(b, &mut short)),
     );
     show(b"its first byte: ", wide8(short[0]));
-    let mut buffer = [170u8; 47];
+    let mut buffer = [170u8; 50];
     show(
-        b"save into 47 bytes: ",
+        b"save into 50 bytes: ",
         saved_number(image::save(b, &mut buffer)),
     );
     show_bytes(&buffer);

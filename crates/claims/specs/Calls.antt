@@ -9,6 +9,7 @@ use lib.IntN.{pos}
 use Rattle.rules.specs.Sensing.{sensed}
 use Rattle.rules.specs.Settings.{settingsCheck, settingsAccepted}
 use Rattle.rules.specs.Samples.{Slice, Equipment, sampleAccepted}
+use Rattle.rules.specs.Droop.{noSide}
 use Rattle.rules.specs.Service.{recoveryTop}
 use Rattle.rules.specs.Records.{fresh, stepOf}
 use Rattle.rules.specs.History.{History}
@@ -50,7 +51,7 @@ operationsBy e = record { check = settingsCheck; sense = sensed; step = stepOf e
 
 -- spec 8.2: the report of a fresh board
 abbrev pub freshReport : Report
-freshReport = record { status = 0; bits = 0; share = 0; recovery = recoveryTop; watts = 0; vars = pos 0 }
+freshReport = record { status = 0; bits = 0; share = 0; recovery = recoveryTop; side = noSide; held = 0; watts = 0; vars = pos 0 }
 
 -- a board at work: its record, and the last report it gave
 pub record Run : Type 0 where

@@ -9,6 +9,7 @@ pub mod FirstCause
 pub mod SheetCauses
 pub mod Recovery
 pub mod RideThroughEnds
+pub mod Droop
 pub mod TripAndReturn
 pub mod TwoHistories
 pub mod RampPairs

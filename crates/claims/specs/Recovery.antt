@@ -21,9 +21,9 @@ GivesPower report h (x ∷ run) = (exports (report (x ∷ h) .status) ≡ true) 
 abbrev pub Ceased : (History → Items) → History → Type 0
 Ceased report h = within 4 5 (report h .status) ≡ true
 
--- the watts that the limits beside recovery leave of a sample (spec 7.5), by what its report shows
+-- the watts that the limits beside recovery leave of a sample (spec 7.5, 7.8), by what its report shows
 abbrev pub leftByOthers : Equipment → Settings → Slice → Items → ℕ
-leftByOthers e st x r = leftBy (standingLimits e st x (r .share) (r .vars))
+leftByOthers e st x r = leftBy (standingLimits e st x (r .share) (r .held) (r .vars))
 
 pub record RestoresPower (e : Equipment) (st : Settings) (report : History → Items) : Type 0 where
   -- the count is 0 in a cessation, and 40 when tripped, before any sample too, and at the step of a return
@@ -40,7 +40,7 @@ pub record RestoresPower (e : Equipment) (st : Settings) (report : History → I
   -- and after forty in a row it is 40, whatever was before them
   pub restored : (h : History) (run : List Slice) → GivesPower report h run → 40 ≤ length run → report (followedBy h run) .recovery ≡ 40
   -- where power is given, the watts are what the other limits leave, or what the count lets through where that is less
-  pub held : (x : Slice) (h : History) → exports (report (x ∷ h) .status) ≡ true
+  pub lesser : (x : Slice) (h : History) → exports (report (x ∷ h) .status) ≡ true
       → report (x ∷ h) .watts ≡ min (leftByOthers e st x (report (x ∷ h))) (recoveryLimit (report (x ∷ h) .recovery))
   -- so at 40 the limit binds no more
   pub free : (x : Slice) (h : History) → sampleAccepted x ≡ true → exports (report (x ∷ h) .status) ≡ true → report (x ∷ h) .recovery ≡ 40

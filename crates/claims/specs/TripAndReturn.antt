@@ -13,7 +13,7 @@ use Rattle.rules.specs.Refusals.{answerNumber}
 use Rattle.rules.specs.Service.{inService}
 use Rattle.rules.specs.Reports.{reportOf}
 use Rattle.rules.specs.Records.{fresh, settled}
-use Rattle.rules.specs.History.{History, streak, serving, climbed, historyRecovery, historyReport}
+use Rattle.rules.specs.History.{History, streak, serving, climbed, historyRecovery, historyHeld, historyReport}
 use Rattle.rules.specs.declared.Settings.{Settings}
 use Rattle.rules.specs.declared.Board.{Board}
 use Rattle.rules.specs.declared.Answer.{Answer}
@@ -31,7 +31,7 @@ unfoldable pub recordOf : Equipment → Settings → History → Board
 recordOf e st [] = fresh
 recordOf e st (x ∷ h) =
     settled e st x (map (countOf (x ∷ h)) (rules e st)) (serving e st (x ∷ h)) (min (st .ramp) (climbed e st (x ∷ h)))
-    (historyRecovery e st (x ∷ h))
+    (historyRecovery e st (x ∷ h)) (historyHeld e st (x ∷ h))
 
 -- ---- what is claimed, under an accepted sheet
 

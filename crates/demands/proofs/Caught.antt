@@ -12,12 +12,14 @@ use Rattle.demands.specs.Caught.{ShamRefusalsCaught, ShamReportsCaught, 
 use Rattle.demands.specs.Caught.{ShamCarryOversCaught}
 use Rattle.demands.specs.Caught.{ShamRulesCaught}
 use Rattle.demands.specs.Caught.{ShamRampsCaught}
+use Rattle.demands.specs.Caught.{ShamDroopsCaught}
+use Rattle.demands.proofs.ShamDroops.{anew, own, across, limited, rounded-up, ended-early, side-kept}
 use Rattle.demands.proofs.ShamRamps.{longer-not-told, longer-shows, counted-at-once}
 use Rattle.demands.proofs.Demands.{ourRampsTold, ourRampsUntold}
-use Rattle.demands.proofs.ShamRules.{waits, turned, best, last, mandatory}
+use Rattle.demands.proofs.ShamRules.{waits, turned, best, last, droop-last, mandatory}
 use Rattle.demands.proofs.ShamCarryOvers.{added-first, room-first, what-fits, appends-less, drops-any, swaps-caught}
 use Rattle.demands.proofs.Shams.{quick-accepted, waiting-accepted, early, invented, tripped, repeated, kept, refusing, leaving, as-lent}
-use Rattle.demands.proofs.Shams.{no-ramp, no-ninth, no-recovery, no-bits, full-at-once, unheld, withheld}
+use Rattle.demands.proofs.Shams.{no-ramp, no-ninth, no-recovery, no-side, no-held, no-bits, full-at-once, unheld, withheld}
 use Rattle.demands.proofs.Shams.{stopped, riding-on, low-end, high-end, momentary}
 use Rattle.demands.proofs.ShamStatus.{only-reports, only-trips, only-returns}
 use Rattle.demands.proofs.ShamReadings.{turned-away, let-in}
@@ -54,7 +56,7 @@ shamRefusalsCaught =
     }
 
 pub shamImagesCaught : ShamImagesCaught
-shamImagesCaught = record { accepted = (quick-accepted, waiting-accepted); ramp = no-ramp; ninth = no-ninth; recovery = no-recovery; bits = no-bits }
+shamImagesCaught = record { accepted = (quick-accepted, waiting-accepted); ramp = no-ramp; ninth = no-ninth; recovery = no-recovery; side = no-side; held = no-held; bits = no-bits }
 
 pub shamRampsCaught : ShamRampsCaught
 shamRampsCaught =
@@ -71,6 +73,10 @@ shamRecoveryCaught = record { shown = full-at-once; unheld = unheld; withheld = 
 
 pub shamRideThroughEndsCaught : ShamRideThroughEndsCaught
 shamRideThroughEndsCaught = record { riding-on = riding-on; low-end = low-end; high-end = high-end; momentary = momentary; stopped = stopped }
+
+pub shamDroopsCaught : ShamDroopsCaught
+shamDroopsCaught =
+    record { anew = anew; own = own; across = across; limited = limited; rounded-up = rounded-up; ended-early = ended-early; side-kept = side-kept }
 
 pub shamReadingsCaught : ShamReadingsCaught
 shamReadingsCaught =
@@ -91,4 +97,4 @@ shamCarryOversCaught =
     }
 
 pub shamRulesCaught : ShamRulesCaught
-shamRulesCaught = record { waits = waits; turned = turned; best = best; last = last; mandatory = mandatory }
+shamRulesCaught = record { waits = waits; turned = turned; best = best; last = last; droop = droop-last; mandatory = mandatory }

@@ -18,6 +18,7 @@ use Rattle.laws.proofs.Demand2.{demand2, reports-trip, counter-rule}
 use Rattle.laws.proofs.Demand3.{demand3}
 use Rattle.laws.proofs.Recovery.{restores-power}
 use Rattle.laws.proofs.RideThroughEnds.{ceases-beyond-ride-through}
+use Rattle.laws.proofs.Droop.{droops}
 use Rattle.laws.proofs.RampPairs.{ramps-told-within-five, ramps-untold-within-four}
 use Rattle.laws.proofs.Bits.{bits-unpacked, reports-items, two-histories-reported}
 use Rattle.laws.proofs.LentRecords.{reads-records}
@@ -43,7 +44,7 @@ use Rattle.demands.specs.Demands.{AnyTripAndReturn, AnyTwoHistories, Our
 use Rattle.demands.specs.Demands.{PowerLaws, OurSessions, SessionsPrinted}
 use Rattle.demands.specs.Demands.{AlikeEquipmentStepsAlike, OurPrinted, OnePrinting, SamplesOnLines, StatusWordsTell, BitsUnpacked}
 use Rattle.demands.specs.Demands.{ReportsAreItems, OurTwoHistoriesReported, OurRecovery, AnyRecovery}
-use Rattle.demands.specs.Demands.{OurRideThroughEnds, AnyRideThroughEnds}
+use Rattle.demands.specs.Demands.{OurRideThroughEnds, AnyRideThroughEnds, OurDroop, AnyDroop}
 use Rattle.demands.specs.Demands.{OurRampsTold, OurRampsUntold, AnyRampsTold, AnyRampsUntold, ExportedRamps}
 use Rattle.demands.specs.Demands.{OurLentRecords, LentValues, RightReportsTrip}
 use Rattle.claims.specs.TripAndReturn.{Demand2}
@@ -187,6 +188,9 @@ ourRecovery st ok = restores-power ourEquipment st our-equipment-sound ok
 pub ourRideThroughEnds : OurRideThroughEnds
 ourRideThroughEnds st ok = ceases-beyond-ride-through ourEquipment st our-equipment-sound ok
 
+pub ourDroop : OurDroop
+ourDroop = droops ourEquipment
+
 pub ourRampsTold : OurRampsTold
 ourRampsTold = ramps-told-within-five ourEquipment our-equipment-sound
 
@@ -235,6 +239,9 @@ anyRecovery e sound st ok = restores-power e st sound ok
 
 pub anyRideThroughEnds : AnyRideThroughEnds
 anyRideThroughEnds e sound st ok = ceases-beyond-ride-through e st sound ok
+
+pub anyDroop : AnyDroop
+anyDroop = droops
 
 pub anyWayBack : AnyWayBack
 anyWayBack = histories-back

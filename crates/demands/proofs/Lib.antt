@@ -17,5 +17,6 @@ pub mod Contracts
 pub mod ShamRules
 pub mod LongestRamp
 pub mod ShamRamps
+pub mod ShamDroops
 pub mod Demands
 pub mod Caught

@@ -8,13 +8,12 @@ use lib.Dec.{lit<}
 use lib.IntN.{pos}
 use lib.ListN.{length, take, drop, getD, take-append-drop, length-drop}
 use lib.Seq.{length-take-le, take-suc}
-use Rattle.rules.specs.Service.{recoveryTop}
 use Rattle.rules.specs.Images.{numberBytes, Field, field, fieldBytes, image, imageLength}
 use Rattle.rules.specs.declared.Board.{Board}
 use Rattle.claims.specs.FirstCause.{first}
-use Rattle.carryover.specs.CarryOver.{oldLength, carriedForward, forwardCauses, backCauses}
+use Rattle.carryover.specs.CarryOver.{oldLength, addedBytes, carriedForward, forwardCauses, backCauses}
 use Rattle.carryover.specs.Carries.{CarryOutcome, CarryOperation, ourForward, ourBack, AllBytes, CarryRefusedRightly, newIn, oldIn, oldFields, oldImage, recovered, CarriesRecords}
-use Rattle.carryover.proofs.Carrying.{parts, refused-rightly}
+use Rattle.carryover.proofs.Carrying.{whole, refused-rightly}
 use Rattle.carryover.proofs.Numbered.{numbered}
 use Rattle.demands.proofs.CarryOver.{recovered-image, same-old, carries-records}
 
@@ -87,6 +86,8 @@ readOld l =
       watts = value 2 (drop 4 rest);
       vars = pos (value 2 (drop 2 (drop 4 rest)));
       recovery = 0;
+      side = 0;
+      held = 0;
     }
 
 oldWidths : List ℕ
@@ -112,14 +113,13 @@ same-outcome e₁ e₂ = made e₁ e₂
         → _≡_ {A = CarryOutcome} (record { number = m; target = x }) (record { number = n; target = y })
     made e₁ e₂ = rw (e₁, e₂)
 
--- an image that can be carried back is that of a record with a full recovery count
-record-of : (source : List ℕ) → AllBytes source → (length source ≡ imageLength) × (getD source oldLength 0 ≡ recoveryTop)
+-- an image that can be carried back is that of a record with a full recovery count, no side and no held power
+record-of : (source : List ℕ) → AllBytes source → (length source ≡ imageLength) × (drop oldLength source ≡ addedBytes)
     → image (recovered (readOld (take oldLength source))) ≡ source
 record-of source bytes told =
     let front = take oldLength source in
     let old = read-old front (bytes-before oldLength source bytes) (length-take-le oldLength source (omega (arith, told .0))) in
-    let byte = ap (λ (n : ℕ). front ++ (n ∷ [])) (told .1) in
-    recovered-image (readOld front) ∙ ap carriedForward old ∙ sym (parts source (told .0) ∙ byte)
+    recovered-image (readOld front) ∙ ap carriedForward old ∙ whole source (told .1)
 
 -- what operations that carry records make of any bytes: the source is some record's image
 module _ (forward back : CarryOperation) (records : CarriesRecords forward back) (source target : List ℕ) (bytes : AllBytes source) where
@@ -129,12 +129,11 @@ module _ (forward back : CarryOperation) (records : CarriesRecords forward back)
   of-record : (b : Board) (x : List ℕ) → length (b .counters) ≡ 9 → image b ≡ x → back x target .number ≡ 0 → oldIn (back x target) ≡ oldImage b
   of-record b x nine e none = rw (← e) (records .back-image b target nine (rw e none))
 
-  old-image : (length source ≡ imageLength) × (getD source oldLength 0 ≡ recoveryTop) → back source target .number ≡ 0
+  old-image : (length source ≡ imageLength) × (drop oldLength source ≡ addedBytes) → back source target .number ≡ 0
       → oldIn (back source target) ≡ oldImage (readOld (take oldLength source))
   old-image told none =
       let b = readOld (take oldLength source) in
-      let whole = record-of source bytes told in
-      of-record (recovered b) source (nine-read (take oldLength source)) whole none ∙ same-old b
+      of-record (recovered b) source (nine-read (take oldLength source)) (record-of source bytes told) none ∙ same-old b
 
 module _ (forward back : CarryOperation) (refuses : CarryRefusedRightly forward back) (records : CarriesRecords forward back)
     (source target : List ℕ) (bytes : AllBytes source) where

@@ -7,12 +7,11 @@ use Prim.Native.Nat.{ℕ, _≤_}
 use native.Mathlib.Omega.{arith}
 use lib.Dec.{eqb, leb, lit<, lit≤}
 use lib.IntN.{pos}
-use lib.ListN.{length, take, getD, replicate}
-use Rattle.rules.specs.Service.{recoveryTop}
+use lib.ListN.{length, take, drop, getD, replicate}
 use Rattle.rules.specs.Images.{numberBytes, fieldBytes, imageFields, image, imageLength}
 use Rattle.rules.specs.declared.Board.{Board}
 use Rattle.claims.specs.FirstCause.{cause, first}
-use Rattle.carryover.specs.CarryOver.{oldLength, addedBytes, forwardAnswer, backAnswer, forwardInto, forwardCauses, backCauses}
+use Rattle.carryover.specs.CarryOver.{oldLength, addedBytes, sameBytes, forwardAnswer, backAnswer, forwardInto, forwardCauses, backCauses}
 use Rattle.carryover.proofs.Carrying.{refused-rightly, round-trips, new-is, old-is}
 use Rattle.carryover.specs.Carries.{ourForward, ourBack, CarryRefusedRightly, newIn, oldIn, RoundTrips, oldFields, oldImage, CarriesRecords}
 use Rattle.demands.specs.ShamCarryOvers.{addedFirst, roomFirst, dropsAny, carriesWhatFits, appendsLess, swapped, swapsForward, swapsBack}
@@ -31,7 +30,7 @@ added-first d =
 pub room-first : ¬ CarryRefusedRightly ourForward roomFirst
 unfolding roomFirst
 room-first d =
-    let e : _≡_ {A = ℕ} 9 11 = d .back-number (zeros 46) [] in
+    let e : _≡_ {A = ℕ} 9 11 = d .back-number (zeros 49) [] in
     omega arith
 
 -- an old image of ones, and a target of one byte
@@ -45,14 +44,14 @@ what-fits d =
 pub appends-less : ¬ RoundTrips appendsLess ourBack
 unfolding appendsLess ourBack backAnswer
 appends-less d =
-    let e : _≡_ {A = ℕ} 11 0 = d .old-new-old (zeros 45) (zeros 46) (zeros 45) refl (lit≤ tt) (lit≤ tt) .1 in
+    let e : _≡_ {A = ℕ} 11 0 = d .old-new-old (zeros 45) (zeros 49) (zeros 45) refl (lit≤ tt) (lit≤ tt) .1 in
     omega arith
 
 -- an image with a recovery count of 0 would come back with 40
 pub drops-any : ¬ RoundTrips ourForward dropsAny
 unfolding dropsAny ourForward forwardAnswer forwardInto
 drops-any d =
-    let e : _≡_ {A = ℕ} 40 0 = ap (λ (bytes : List ℕ). getD bytes 45 0) (d .new-old-new (zeros 46) (zeros 45) (zeros 46) refl (lit≤ tt) .1) in
+    let e : _≡_ {A = ℕ} 40 0 = ap (λ (bytes : List ℕ). getD bytes 45 0) (d .new-old-new (zeros 49) (zeros 45) (zeros 49) refl (lit≤ tt) .1) in
     omega arith
 
 -- ---- two bytes swapped: right refusals and round trips, and another image
@@ -77,10 +76,10 @@ swapped-front [] = refl
 swapped-front (a ∷ []) = refl
 swapped-front (a ∷ b ∷ l) = refl
 
-swapped-byte : (l : List ℕ) → getD (swapped l) oldLength 0 ≡ getD l oldLength 0
-swapped-byte [] = refl
-swapped-byte (a ∷ []) = refl
-swapped-byte (a ∷ b ∷ l) = refl
+swapped-rest : (l : List ℕ) → drop oldLength (swapped l) ≡ drop oldLength l
+swapped-rest [] = refl
+swapped-rest (a ∷ []) = refl
+swapped-rest (a ∷ b ∷ l) = refl
 
 forward-alike : (s t : List ℕ) → swapsForward s t .number ≡ first (forwardCauses s t)
 unfolding swapsForward
@@ -92,8 +91,8 @@ back-alike : (s t : List ℕ) → swapsBack s t .number ≡ first (backCauses s 
 unfolding swapsBack
 back-alike s t =
     refused-rightly .back-number (swapped s) t
-    ∙ ap₂ (λ (n b : ℕ). first (cause 10 (not (eqb n imageLength)) ∷ cause 11 (not (eqb b recoveryTop)) ∷ cause 9 (not (leb oldLength (length t))) ∷ []))
-    (swapped-length s) (swapped-byte s)
+    ∙ ap₂ (λ (n : ℕ) (r : List ℕ). first (cause 10 (not (eqb n imageLength)) ∷ cause 11 (not (sameBytes r addedBytes)) ∷ cause 9 (not (leb oldLength (length t))) ∷ []))
+    (swapped-length s) (swapped-rest s)
 
 -- as ours
 back-same : (s t : List ℕ) → swapsBack s t .number ≡ 0 → ourBack s t .number ≡ 0
@@ -140,17 +139,17 @@ swaps-trip =
           rw (swapped-old new t none) trip;
       allowed = λ new t measured room.
           let allowed = round-trips .allowed (swapped new) t (swapped-length new ∙ measured) room in
-          (λ none. sym (swapped-byte new) ∙ allowed .0 none, λ full. allowed .1 (swapped-byte new ∙ full));
+          (λ none. sym (swapped-rest new) ∙ allowed .0 none, λ added. allowed .1 (swapped-rest new ∙ added));
     }
 
 -- the image of a board that is entering service begins with 1
 entering : Board
-entering = record { status = 1; counters = replicate 9 0; ramp = 0; watts = 0; vars = pos 0; recovery = 40 }
+entering = record { status = 1; counters = replicate 9 0; ramp = 0; watts = 0; vars = pos 0; recovery = 40; side = 0; held = 0 }
 
 no-image : ¬ CarriesRecords swapsForward swapsBack
 unfolding swapsForward ourForward forwardAnswer forwardInto entering oldImage oldFields image imageFields fieldBytes numberBytes
 no-image d =
-    let e : _≡_ {A = ℕ} 0 1 = ap (λ (bytes : List ℕ). getD bytes 0 0) (d .forward-image entering (zeros 46) refl (lit≤ tt) .1) in
+    let e : _≡_ {A = ℕ} 0 1 = ap (λ (bytes : List ℕ). getD bytes 0 0) (d .forward-image entering (zeros 49) refl (lit≤ tt) .1) in
     omega arith
 
 pub swaps-caught : CarryRefusedRightly swapsForward swapsBack × RoundTrips swapsForward swapsBack × (¬ CarriesRecords swapsForward swapsBack)

@@ -18,7 +18,8 @@ use Rattle.rules.specs.Service.{varsOf, wattsOf}
 use Rattle.rules.specs.Reports.{Items, reportOf}
 use Rattle.rules.specs.Images.{image, imageLength, savedInto}
 use Rattle.rules.specs.Records.{fresh, settled}
-use Rattle.rules.specs.History.{History, streak, serving, climbed, sinceCessation, historyRecovery}
+use Rattle.rules.specs.Droop.{sideOf}
+use Rattle.rules.specs.History.{History, streak, serving, climbed, sinceCessation, historyRecovery, historySide, historyHeld}
 use Rattle.rules.specs.declared.Settings.{Settings}
 use Rattle.rules.specs.declared.Board.{Board}
 use Rattle.rules.specs.declared.Report.{Report}
@@ -72,7 +73,7 @@ abbrev given : History → Board
 given h = recordOf ourEquipment (longer longestRamp) h
 
 pair-alike : given (sample ∷ sample ∷ []) ≡ withRamp 1 (given (sample ∷ []))
-unfolding all any within largest voltage broken inRange voltageRegion frequencyRegion regionOf curveFrom curve nameplate varsOf wattsOf settled recordOf streak serving climbed sinceCessation historyRecovery
+unfolding all any within largest voltage broken inRange voltageRegion frequencyRegion regionOf curveFrom curve nameplate varsOf wattsOf settled recordOf streak serving climbed sinceCessation historyRecovery sideOf historySide historyHeld
 pair-alike = refl
 
 first-ramp : given (sample ∷ []) .ramp ≡ 0

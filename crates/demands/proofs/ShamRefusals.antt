@@ -41,7 +41,7 @@ last-code d =
 
 -- a record with a status that has no name, and a slice of no numbers
 abbrev nameless : Board
-nameless = record { status = 6; counters = replicate 9 0; ramp = 0; watts = 0; vars = pos 0; recovery = 40 }
+nameless = record { status = 6; counters = replicate 9 0; ramp = 0; watts = 0; vars = pos 0; recovery = 40; side = 0; held = 0 }
 
 pub reading-stored : ¬ RefusesRightly storesReading
 unfolding storesReading all within rows inRow rising checkFrom linesOf settingsCheck sampleCheck stepOf readAs

@@ -13,11 +13,12 @@ use Rattle.rules.specs.Samples.{Slice, Equipment, permitted, frequency, lowest,
 use Rattle.rules.specs.Counters.{Kind, undervoltage, overvoltage, underfrequency, overfrequency, kinds, broken, inRange, limitRules, readyRule}
 use Rattle.rules.specs.Regions.{ourEquipment}
 use Rattle.rules.specs.Service.{serves, varsOf, wattsOf}
-use Rattle.rules.specs.History.{History, followedBy, streak, complete, serving, climbed, sinceCessation, historyStatus, historyShare, historyRecovery, historyWatts, historyVars, historyReport}
+use Rattle.rules.specs.History.{History, followedBy, streak, complete, serving, climbed, sinceCessation, historyStatus, historyShare, historyRecovery, historySide, wattsHolding, historyHeld, historyWatts, historyVars, historyReport}
 use Rattle.rules.specs.declared.Settings.{Settings}
 use Rattle.claims.specs.TwoHistories.{AgreeBy}
 use Rattle.laws.proofs.Limits.{LevelIn, LimitsIn, limits-in}
 use Rattle.laws.proofs.InRange.{breaks-none}
+use Rattle.laws.proofs.Events.{tripped-side, side-none}
 use Rattle.laws.proofs.Trace.{same-items}
 use Rattle.demands.specs.Shams.{reportWithoutBits}
 
@@ -143,10 +144,24 @@ module _ (e : Equipment) (st : Settings) (ok : settingsAccepted st ≡ true) whe
     unfolding historyRecovery
     recovery-under h = rw (since-under h)
 
+    side-under : (h : History) → historySide e st (under h x) ≡ historySide e st h
+    unfolding historySide
+    side-under [] = rw alone-tripped
+    side-under (y ∷ h) = rw (serving-under (y ∷ h))
+
+    holding-under : (h : History) (held : ℕ) → wattsHolding e st (under h x) held ≡ wattsHolding e st h held
+    unfolding wattsHolding wattsOf within
+    holding-under [] held = rw alone-status
+    holding-under (y ∷ h) held = rw (status-under (y ∷ h), share-under (y ∷ h), recovery-under (y ∷ h))
+
+    held-under : (h : History) → historyHeld e st (under h x) ≡ historyHeld e st h
+    unfolding historyHeld
+    held-under [] = side-none e st (x ∷ []) (tripped-side e st (x ∷ []) alone-tripped)
+    held-under (y ∷ h) = rw (side-under h, side-under (y ∷ h), held-under h, holding-under h (historyHeld e st h))
+
     watts-under : (h : History) → historyWatts e st (under h x) ≡ historyWatts e st h
-    unfolding historyWatts wattsOf within
-    watts-under [] = rw alone-status
-    watts-under (y ∷ h) = rw (status-under (y ∷ h), share-under (y ∷ h), recovery-under (y ∷ h))
+    unfolding historyWatts
+    watts-under h = rw (held-under h) (holding-under h (historyHeld e st h))
 
     vars-under : (h : History) → historyVars e st (under h x) ≡ historyVars e st h
     unfolding historyVars varsOf within
@@ -168,5 +183,5 @@ agree-without-bits st ok x out run l a =
     same : (h : History) → reportWithoutBits st h ≡ reportWithoutBits st (under h x)
     same h =
         same-items (sym (status-under ourEquipment st ok x out h)) refl (sym (share-under ourEquipment st ok x out h))
-        (sym (recovery-under ourEquipment st ok x out h))
+        (sym (recovery-under ourEquipment st ok x out h)) (sym (side-under ourEquipment st ok x out h)) (sym (held-under ourEquipment st ok x out h))
         (sym (watts-under ourEquipment st ok x out h)) (sym (vars-under ourEquipment st ok x out h))

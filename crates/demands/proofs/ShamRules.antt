@@ -11,15 +11,16 @@ use Rattle.rules.specs.Samples.{Slice}
 use Rattle.rules.specs.Counters.{broken, inRange}
 use Rattle.rules.specs.Curves.{curveFrom, curve, nameplate}
 use Rattle.rules.specs.Regions.{voltageRegion, frequencyRegion, regionOf, ourEquipment}
-use Rattle.rules.specs.Service.{varsOf}
-use Rattle.rules.specs.History.{streak, serving, climbed, sinceCessation, historyStatus, historyShare, historyRecovery, historyVars}
+use Rattle.rules.specs.Droop.{sideOf, drooped}
+use Rattle.rules.specs.Service.{varsOf, wattsOf}
+use Rattle.rules.specs.History.{streak, serving, climbed, sinceCessation, historyStatus, historyShare, historyRecovery, historySide, wattsHolding, historyHeld, historyWatts, historyVars, historyReport}
 use Rattle.rules.specs.declared.Settings.{Settings}
 use Rattle.explain.specs.Numbers.{statusRuleNumber, limitPlace, wattsRuleNumber}
 use Rattle.explain.specs.Explained.{regionCause, historyStatusRule, historyWattsRule}
 use Rattle.explain.specs.Explains.{NamesStatusRule, NamesWattsRule}
 use Rattle.explain.proofs.Naming.{one-status-rule, one-watts-rule}
 use Rattle.demands.specs.Shams.{exampleSheet}
-use Rattle.demands.specs.ShamRules.{waitsAtTrip, lastLimit, bestRegion, lastAmongEquals, statusInMandatory}
+use Rattle.demands.specs.ShamRules.{waitsAtTrip, lastLimit, bestRegion, lastAmongEquals, droopLast, statusInMandatory}
 
 abbrev quick : Settings
 quick = exampleSheet 0
@@ -58,14 +59,21 @@ best d =
 
 -- a return with no power available: share and available power are both 0
 pub last : ¬ NamesWattsRule ourEquipment quick (lastAmongEquals quick)
-unfolding lastAmongEquals historyWattsRule all any within largest voltage broken inRange voltageRegion frequencyRegion regionOf curveFrom curve nameplate varsOf streak serving climbed sinceCessation historyStatus historyShare historyRecovery historyVars
+unfolding lastAmongEquals historyWattsRule all any within largest voltage broken inRange voltageRegion frequencyRegion regionOf curveFrom curve nameplate varsOf streak serving climbed sinceCessation historyStatus historyShare historyRecovery historyVars sideOf drooped historySide historyHeld
 last d =
     let e : _≡_ {A = ℕ} 4 2 = ap wattsRuleNumber (one-watts-rule ourEquipment quick (lastAmongEquals quick) d (sample 1000 60000 1 0 ∷ [])) in
     omega arith
 
--- mandatory operation right after a return: the share is 0
+-- mandatory operation by a voltage, right after a return: the share is 0
 pub mandatory : ¬ NamesWattsRule ourEquipment quick (statusInMandatory quick)
-unfolding statusInMandatory historyWattsRule all any within largest voltage broken inRange voltageRegion frequencyRegion regionOf curveFrom curve nameplate varsOf streak serving climbed sinceCessation historyStatus historyShare historyRecovery historyVars
+unfolding statusInMandatory historyWattsRule all any within largest voltage broken inRange voltageRegion frequencyRegion regionOf curveFrom curve nameplate varsOf streak serving climbed sinceCessation historyStatus historyShare historyRecovery historyVars sideOf drooped historySide historyHeld
 mandatory d =
-    let e : _≡_ {A = ℕ} 1 4 = ap wattsRuleNumber (one-watts-rule ourEquipment quick (statusInMandatory quick) d (sample 1000 58000 1 10000 ∷ nominal ∷ [])) in
+    let e : _≡_ {A = ℕ} 1 4 = ap wattsRuleNumber (one-watts-rule ourEquipment quick (statusInMandatory quick) d (sample 700 60000 1 10000 ∷ nominal ∷ [])) in
+    omega arith
+
+-- in mandatory operation at 57000 after 200 watts: droop would give more than is available, and all four limits leave 10000
+pub droop-last : ¬ NamesWattsRule ourEquipment quick (droopLast quick)
+unfolding droopLast historyWattsRule all any within largest voltage broken inRange voltageRegion frequencyRegion regionOf curveFrom curve nameplate varsOf wattsOf streak serving climbed sinceCessation historyStatus historyShare historyRecovery historyVars sideOf drooped historySide wattsHolding historyHeld historyWatts historyReport
+droop-last d =
+    let e : _≡_ {A = ℕ} 5 8 = ap wattsRuleNumber (one-watts-rule ourEquipment quick (droopLast quick) d (sample 1000 57000 1 10000 ∷ nominal ∷ nominal ∷ nominal ∷ [])) in
     omega arith

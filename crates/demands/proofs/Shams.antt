@@ -15,11 +15,12 @@ use Rattle.rules.specs.Samples.{Slice, sampleCheck}
 use Rattle.rules.specs.Counters.{broken, inRange}
 use Rattle.rules.specs.Regions.{voltageRegion, frequencyRegion, regionOf, ourEquipment}
 use Rattle.rules.specs.Curves.{curveFrom, curve, nameplate}
+use Rattle.rules.specs.Droop.{sideOf, drooped}
 use Rattle.rules.specs.Service.{varsOf, wattsOf}
 use Rattle.rules.specs.Reports.{Items, reportOf}
 use Rattle.rules.specs.Images.{numberBytes, fieldBytes, imageFields, image, savedInto}
 use Rattle.rules.specs.Records.{fresh, each, readAs, settled, ruled, next, shown, stepOf}
-use Rattle.rules.specs.History.{History, streak, serving, climbed, sinceCessation, historyStatus, historyShare, historyRecovery, historyWatts, historyVars, historyReport}
+use Rattle.rules.specs.History.{History, streak, serving, climbed, sinceCessation, historyStatus, historyShare, historyRecovery, historySide, wattsHolding, historyHeld, historyWatts, historyVars, historyReport}
 use Rattle.rules.specs.declared.Settings.{Settings}
 use Rattle.rules.specs.declared.Board.{Board}
 use Rattle.rules.specs.declared.Report.{Report}
@@ -34,7 +35,7 @@ use Rattle.claims.specs.TwoHistories.{TwoHistoriesBy}
 use Rattle.laws.proofs.RampPairs.{buffer}
 use Rattle.demands.specs.Shams.{exampleSheet, tripsEarly, inventsCounters, alwaysTripped, repeatsFirst, keepsRecord, turnsAway, takesAsLent}
 use Rattle.demands.specs.ShamRefusals.{refusesLastCode}
-use Rattle.demands.specs.Shams.{turnsAwayLastCode, savedWithoutRamp, savedWithoutNinth, savedWithoutRecovery, reportWithoutBits}
+use Rattle.demands.specs.Shams.{turnsAwayLastCode, savedWithoutRamp, savedWithoutNinth, savedWithoutRecovery, savedWithoutSide, savedWithoutHeld, reportWithoutBits}
 use Rattle.demands.specs.Shams.{reportFullAtOnce, reportUnheld, reportWithheld, stopsCounting, reportRidingOn, reportCeasingAt, reportMomentary}
 use Rattle.demands.proofs.ShamReport.{agree-without-bits}
 
@@ -57,42 +58,42 @@ calm = calls 60000 1
 
 -- in service and a limit broken once: ours rides through in mandatory operation
 pub early : ¬ TripAndReturn ourEquipment tripsEarly quick
-unfolding tripsEarly all any within largest voltage rows inRow rising checkFrom linesOf settingsCheck sampleCheck broken inRange voltageRegion frequencyRegion regionOf curveFrom curve nameplate varsOf wattsOf reportOf fresh each readAs settled ruled next shown stepOf streak serving climbed sinceCessation historyStatus historyShare historyRecovery historyWatts historyVars historyReport
+unfolding tripsEarly all any within largest voltage rows inRow rising checkFrom linesOf settingsCheck sampleCheck broken inRange voltageRegion frequencyRegion regionOf curveFrom curve nameplate sideOf drooped varsOf wattsOf reportOf fresh each readAs settled ruled next shown stepOf streak serving climbed sinceCessation historyStatus historyShare historyRecovery historySide wattsHolding historyHeld historyWatts historyVars historyReport
 early d =
     let e : _≡_ {A = ℕ} 0 3 = ap (λ (r : Report). r .status) (d .shows (calm ∷ calls 61201 1 ∷ []) (inl refl, (inl refl, tt))) in
     omega arith
 
 -- after a sample at nominal the ninth counter is 1
 pub invented : ¬ TripAndReturn ourEquipment inventsCounters quick
-unfolding inventsCounters recordOf all any within largest voltage rows inRow rising checkFrom linesOf settingsCheck sampleCheck broken inRange voltageRegion frequencyRegion regionOf curveFrom curve nameplate varsOf wattsOf reportOf fresh each readAs settled ruled next shown stepOf streak serving climbed sinceCessation historyStatus historyShare historyRecovery historyWatts historyVars historyReport
+unfolding inventsCounters recordOf all any within largest voltage rows inRow rising checkFrom linesOf settingsCheck sampleCheck broken inRange voltageRegion frequencyRegion regionOf curveFrom curve nameplate sideOf drooped varsOf wattsOf reportOf fresh each readAs settled ruled next shown stepOf streak serving climbed sinceCessation historyStatus historyShare historyRecovery historySide wattsHolding historyHeld historyWatts historyVars historyReport
 invented d =
     let e : _≡_ {A = ℕ} 2 1 = ap (λ (b : Board). getD (b .counters) 8 0) (d .keeps (calm ∷ []) (inl refl, tt)) in
     omega arith
 
 -- a wait of 0 is one step: ours enters service
 pub tripped : ¬ TripAndReturn ourEquipment alwaysTripped quick
-unfolding alwaysTripped all any within largest voltage rows inRow rising checkFrom linesOf settingsCheck sampleCheck broken inRange voltageRegion frequencyRegion regionOf curveFrom curve nameplate varsOf wattsOf reportOf fresh each readAs settled ruled next shown stepOf streak serving climbed sinceCessation historyStatus historyShare historyRecovery historyWatts historyVars historyReport
+unfolding alwaysTripped all any within largest voltage rows inRow rising checkFrom linesOf settingsCheck sampleCheck broken inRange voltageRegion frequencyRegion regionOf curveFrom curve nameplate sideOf drooped varsOf wattsOf reportOf fresh each readAs settled ruled next shown stepOf streak serving climbed sinceCessation historyStatus historyShare historyRecovery historySide wattsHolding historyHeld historyWatts historyVars historyReport
 tripped d =
     let e : _≡_ {A = ℕ} 0 1 = ap (λ (r : Report). r .status) (d .shows (calm ∷ []) (inl refl, tt)) in
     omega arith
 
 -- permission off: ours trips
 pub repeated : ¬ TripAndReturn ourEquipment repeatsFirst quick
-unfolding repeatsFirst all any within largest voltage rows inRow rising checkFrom linesOf settingsCheck sampleCheck broken inRange voltageRegion frequencyRegion regionOf curveFrom curve nameplate varsOf wattsOf reportOf fresh each readAs settled ruled next shown stepOf streak serving climbed sinceCessation historyStatus historyShare historyRecovery historyWatts historyVars historyReport
+unfolding repeatsFirst all any within largest voltage rows inRow rising checkFrom linesOf settingsCheck sampleCheck broken inRange voltageRegion frequencyRegion regionOf curveFrom curve nameplate sideOf drooped varsOf wattsOf reportOf fresh each readAs settled ruled next shown stepOf streak serving climbed sinceCessation historyStatus historyShare historyRecovery historySide wattsHolding historyHeld historyWatts historyVars historyReport
 repeated d =
     let e : _≡_ {A = ℕ} 1 0 = ap (λ (r : Report). r .status) (d .shows (calm ∷ calls 60000 0 ∷ []) (inl refl, (inl refl, tt))) in
     omega arith
 
 -- one step of the ramp: ours shows a share of 100
 pub kept : ¬ TripAndReturn ourEquipment keepsRecord quick
-unfolding keepsRecord all any within largest voltage rows inRow rising checkFrom linesOf settingsCheck sampleCheck broken inRange voltageRegion frequencyRegion regionOf curveFrom curve nameplate varsOf wattsOf reportOf fresh each readAs settled ruled next shown stepOf streak serving climbed sinceCessation historyStatus historyShare historyRecovery historyWatts historyVars historyReport
+unfolding keepsRecord all any within largest voltage rows inRow rising checkFrom linesOf settingsCheck sampleCheck broken inRange voltageRegion frequencyRegion regionOf curveFrom curve nameplate sideOf drooped varsOf wattsOf reportOf fresh each readAs settled ruled next shown stepOf streak serving climbed sinceCessation historyStatus historyShare historyRecovery historySide wattsHolding historyHeld historyWatts historyVars historyReport
 kept d =
     let e : _≡_ {A = ℕ} 0 100 = ap (λ (r : Report). r .share) (d .shows (calm ∷ calm ∷ []) (inl refl, (inl refl, tt))) in
     omega arith
 
 -- a second sample in service whose status stays: ours reports it
 pub refusing : ¬ TripAndReturn ourEquipment turnsAway quick
-unfolding turnsAway all any within largest voltage rows inRow rising checkFrom linesOf settingsCheck sampleCheck broken inRange voltageRegion frequencyRegion regionOf curveFrom curve nameplate varsOf wattsOf reportOf fresh each readAs settled ruled next shown stepOf streak serving climbed sinceCessation historyStatus historyShare historyRecovery historyWatts historyVars historyReport
+unfolding turnsAway all any within largest voltage rows inRow rising checkFrom linesOf settingsCheck sampleCheck broken inRange voltageRegion frequencyRegion regionOf curveFrom curve nameplate sideOf drooped varsOf wattsOf reportOf fresh each readAs settled ruled next shown stepOf streak serving climbed sinceCessation historyStatus historyShare historyRecovery historySide wattsHolding historyHeld historyWatts historyVars historyReport
 refusing d =
     let e : _≡_ {A = ℕ} 4 0 = ap answerNumber (d .answers (calm ∷ []) calm (record { under = (inl refl, tt); lends = inl refl; accepted = refl })) in
     omega arith
@@ -109,9 +110,9 @@ leaving d =
 
 -- in service with a ramp count one above the ramp length, in mandatory operation, where the count stays
 pub as-lent : ¬ ReadsRecords ourEquipment takesAsLent
-unfolding takesAsLent all any within largest voltage rows inRow rising checkFrom linesOf settingsCheck sampleCheck broken inRange voltageRegion frequencyRegion regionOf curveFrom curve nameplate varsOf wattsOf reportOf fresh each readAs settled ruled next shown stepOf
+unfolding takesAsLent all any within largest voltage rows inRow rising checkFrom linesOf settingsCheck sampleCheck broken inRange voltageRegion frequencyRegion regionOf curveFrom curve nameplate sideOf drooped varsOf wattsOf reportOf fresh each readAs settled ruled next shown stepOf
 as-lent d =
-    let b : Board = record { status = 3; counters = replicate 9 0; ramp = 101; watts = 0; vars = pos 0; recovery = 40 } in
+    let b : Board = record { status = 3; counters = replicate 9 0; ramp = 101; watts = 0; vars = pos 0; recovery = 40; side = 0; held = 0 } in
     let e : _≡_ {A = ℕ} 101 100 = ap (λ (t : Stepped). t .board .ramp) (d .steps b (calls 61201 1) refl) in
     omega arith
 
@@ -123,7 +124,7 @@ idle wait = record { settings = exampleSheet wait; slice = 1000 ∷ 1000 ∷ 100
 
 -- two ramp counts, one image: the shares differ at once
 pub no-ramp : ¬ TwoHistoriesBy savedWithoutRamp (historyReport ourEquipment) (ruledBy ourEquipment) quick
-unfolding savedWithoutRamp savedInto image imageFields fieldBytes numberBytes all any within largest voltage rows inRow rising checkFrom linesOf settingsCheck sampleCheck broken inRange voltageRegion frequencyRegion regionOf curveFrom curve nameplate varsOf wattsOf reportOf fresh each readAs settled ruled next shown stepOf streak serving climbed sinceCessation historyStatus historyShare historyRecovery historyWatts historyVars historyReport
+unfolding savedWithoutRamp savedInto image imageFields fieldBytes numberBytes all any within largest voltage rows inRow rising checkFrom linesOf settingsCheck sampleCheck broken inRange voltageRegion frequencyRegion regionOf curveFrom curve nameplate sideOf drooped varsOf wattsOf reportOf fresh each readAs settled ruled next shown stepOf streak serving climbed sinceCessation historyStatus historyShare historyRecovery historySide wattsHolding historyHeld historyWatts historyVars historyReport
 no-ramp d =
     let f = d (idle 0 ∷ idle 0 ∷ []) (idle 0 ∷ idle 0 ∷ idle 0 ∷ []) (inl refl, (inl refl, tt)) (inl refl, (inl refl, (inl refl, tt))) buffer buffer
     (omega arith) (omega arith) .0 refl in
@@ -132,7 +133,7 @@ no-ramp d =
 
 -- two counts of a wait of 2, one image: after one sample more one board is in service
 pub no-ninth : ¬ TwoHistoriesBy savedWithoutNinth (historyReport ourEquipment) (ruledBy ourEquipment) (exampleSheet 2)
-unfolding savedWithoutNinth savedInto image imageFields fieldBytes numberBytes all any within largest voltage rows inRow rising checkFrom linesOf settingsCheck sampleCheck broken inRange voltageRegion frequencyRegion regionOf curveFrom curve nameplate varsOf wattsOf reportOf fresh each readAs settled ruled next shown stepOf streak serving climbed sinceCessation historyStatus historyShare historyRecovery historyWatts historyVars historyReport
+unfolding savedWithoutNinth savedInto image imageFields fieldBytes numberBytes all any within largest voltage rows inRow rising checkFrom linesOf settingsCheck sampleCheck broken inRange voltageRegion frequencyRegion regionOf curveFrom curve nameplate sideOf drooped varsOf wattsOf reportOf fresh each readAs settled ruled next shown stepOf streak serving climbed sinceCessation historyStatus historyShare historyRecovery historySide wattsHolding historyHeld historyWatts historyVars historyReport
 no-ninth d =
     let f = d [] (idle 2 ∷ []) tt (inl refl, tt) buffer buffer (omega arith) (omega arith) .0 refl in
     let e : _≡_ {A = ℕ} 0 1 = ap (λ (r : Items). r .status) (f ((idle 2 .slice) ∷ []) (omega arith) (refl, tt)) in
@@ -144,18 +145,40 @@ swell = record { settings = quick; slice = 1000 ∷ 1000 ∷ 1441 ∷ 60000 ∷ 
 
 -- one sample after a cessation, and one with none before it, one image: the counts differ at once
 pub no-recovery : ¬ TwoHistoriesBy savedWithoutRecovery (historyReport ourEquipment) (ruledBy ourEquipment) quick
-unfolding savedWithoutRecovery savedInto image imageFields fieldBytes numberBytes all any within largest voltage rows inRow rising checkFrom linesOf settingsCheck sampleCheck broken inRange voltageRegion frequencyRegion regionOf curveFrom curve nameplate varsOf wattsOf reportOf fresh each readAs settled ruled next shown stepOf streak serving climbed sinceCessation historyStatus historyShare historyRecovery historyWatts historyVars historyReport
+unfolding savedWithoutRecovery savedInto image imageFields fieldBytes numberBytes all any within largest voltage rows inRow rising checkFrom linesOf settingsCheck sampleCheck broken inRange voltageRegion frequencyRegion regionOf curveFrom curve nameplate sideOf drooped varsOf wattsOf reportOf fresh each readAs settled ruled next shown stepOf streak serving climbed sinceCessation historyStatus historyShare historyRecovery historySide wattsHolding historyHeld historyWatts historyVars historyReport
 no-recovery d =
     let f = d (idle 0 ∷ swell ∷ idle 0 ∷ []) (idle 0 ∷ idle 0 ∷ []) (inl refl, (inl refl, (inl refl, tt))) (inl refl, (inl refl, tt)) buffer buffer
     (omega arith) (omega arith) .0 refl in
     let e : _≡_ {A = ℕ} 1 40 = ap (λ (r : Items). r .recovery) (f [] (omega arith) tt) in
     omega arith
 
+-- a sample at this frequency with no power available
+abbrev idleAt : ℕ → Call
+idleAt frequency = record { settings = quick; slice = 1000 ∷ 1000 ∷ 1000 ∷ frequency ∷ 1 ∷ 0 ∷ 0 ∷ [] }
+
+-- a second sample above the deadband, and one at nominal, neither with power to hold, one image: the sides differ at once
+pub no-side : ¬ TwoHistoriesBy savedWithoutSide (historyReport ourEquipment) (ruledBy ourEquipment) quick
+unfolding savedWithoutSide savedInto image imageFields fieldBytes numberBytes all any within largest voltage rows inRow rising checkFrom linesOf settingsCheck sampleCheck broken inRange voltageRegion frequencyRegion regionOf curveFrom curve nameplate sideOf drooped varsOf wattsOf reportOf fresh each readAs settled ruled next shown stepOf streak serving climbed sinceCessation historyStatus historyShare historyRecovery historySide wattsHolding historyHeld historyWatts historyVars historyReport
+no-side d =
+    let f = d (idle 0 ∷ idleAt 60037 ∷ []) (idle 0 ∷ idle 0 ∷ []) (inl refl, (inl refl, tt)) (inl refl, (inl refl, tt)) buffer buffer
+    (omega arith) (omega arith) .0 refl in
+    let e : _≡_ {A = ℕ} 1 0 = ap (λ (r : Items). r .side) (f [] (omega arith) tt) in
+    omega arith
+
+-- an event with no power available, after 100 watts and after none, one image: the held powers differ at once
+pub no-held : ¬ TwoHistoriesBy savedWithoutHeld (historyReport ourEquipment) (ruledBy ourEquipment) quick
+unfolding savedWithoutHeld savedInto image imageFields fieldBytes numberBytes all any within largest voltage rows inRow rising checkFrom linesOf settingsCheck sampleCheck broken inRange voltageRegion frequencyRegion regionOf curveFrom curve nameplate sideOf drooped varsOf wattsOf reportOf fresh each readAs settled ruled next shown stepOf streak serving climbed sinceCessation historyStatus historyShare historyRecovery historySide wattsHolding historyHeld historyWatts historyVars historyReport
+no-held d =
+    let f = d (calm ∷ calm ∷ idleAt 60037 ∷ []) (calm ∷ idle 0 ∷ idleAt 60037 ∷ []) (inl refl, (inl refl, (inl refl, tt))) (inl refl, (inl refl, (inl refl, tt))) buffer buffer
+    (omega arith) (omega arith) .0 refl in
+    let e : _≡_ {A = ℕ} 100 0 = ap (λ (r : Items). r .held) (f [] (omega arith) tt) in
+    omega arith
+
 -- ---- sham recoveries
 
 -- in cease the count is 0
 pub full-at-once : ¬ RestoresPower ourEquipment quick (reportFullAtOnce quick)
-unfolding reportFullAtOnce all any within largest voltage broken inRange voltageRegion frequencyRegion regionOf streak serving climbed sinceCessation historyStatus historyShare historyRecovery historyWatts historyVars historyReport
+unfolding reportFullAtOnce all any within largest voltage broken inRange voltageRegion frequencyRegion regionOf streak serving climbed sinceCessation historyStatus historyShare historyRecovery historySide wattsHolding historyHeld historyWatts historyVars historyReport
 full-at-once d =
     let e : _≡_ {A = ℕ} 40 0 = d .ceased (swell .slice ∷ idle 0 .slice ∷ []) refl in
     omega arith
@@ -168,27 +191,27 @@ abbrev back : History
 back = power 1000 ∷ power 1441 ∷ power 1000 ∷ power 1000 ∷ power 1000 ∷ power 1000 ∷ []
 
 pub unheld : ¬ RestoresPower ourEquipment quick (reportUnheld quick)
-unfolding reportUnheld all any within largest voltage broken inRange voltageRegion frequencyRegion regionOf curveFrom curve nameplate varsOf wattsOf streak serving climbed sinceCessation historyStatus historyShare historyRecovery historyWatts historyVars historyReport
+unfolding reportUnheld all any within largest voltage broken inRange voltageRegion frequencyRegion regionOf curveFrom curve nameplate sideOf drooped varsOf wattsOf streak serving climbed sinceCessation historyStatus historyShare historyRecovery historySide wattsHolding historyHeld historyWatts historyVars historyReport
 unheld d =
     let e : 400 ≤ 250 = d .bound back in
     omega arith
 
 pub withheld : ¬ RestoresPower ourEquipment quick (reportWithheld quick)
-unfolding reportWithheld all any within largest voltage broken inRange voltageRegion frequencyRegion regionOf curveFrom curve nameplate varsOf wattsOf streak serving climbed sinceCessation historyStatus historyShare historyRecovery historyWatts historyVars historyReport
+unfolding reportWithheld all any within largest voltage broken inRange voltageRegion frequencyRegion regionOf curveFrom curve nameplate sideOf drooped varsOf wattsOf streak serving climbed sinceCessation historyStatus historyShare historyRecovery historySide wattsHolding historyHeld historyWatts historyVars historyReport
 withheld d =
-    let e : _≡_ {A = ℕ} 0 250 = d .held (power 1000) (power 1441 ∷ power 1000 ∷ power 1000 ∷ power 1000 ∷ power 1000 ∷ []) refl in
+    let e : _≡_ {A = ℕ} 0 250 = d .lesser (power 1000) (power 1441 ∷ power 1000 ∷ power 1000 ∷ power 1000 ∷ power 1000 ∷ []) refl in
     omega arith
 
 -- ---- shams where the frequency is far outside
 
 -- in service, with no limit broken at nominal and of1 broken here: ours counts 1
 pub stopped : ¬ TripAndReturn ourEquipment stopsCounting quick
-unfolding stopsCounting recordOf all any within largest voltage rows inRow rising checkFrom linesOf settingsCheck sampleCheck broken inRange voltageRegion frequencyRegion regionOf curveFrom curve nameplate varsOf wattsOf reportOf fresh each readAs settled ruled next shown stepOf streak serving climbed sinceCessation historyStatus historyShare historyRecovery historyWatts historyVars historyReport
+unfolding stopsCounting recordOf all any within largest voltage rows inRow rising checkFrom linesOf settingsCheck sampleCheck broken inRange voltageRegion frequencyRegion regionOf curveFrom curve nameplate sideOf drooped varsOf wattsOf reportOf fresh each readAs settled ruled next shown stepOf streak serving climbed sinceCessation historyStatus historyShare historyRecovery historySide wattsHolding historyHeld historyWatts historyVars historyReport
 stopped d =
     let e : _≡_ {A = ℕ} 0 1 = ap (λ (b : Board). getD (b .counters) 6 0) (d .keeps (calm ∷ calls 62001 1 ∷ []) (inl refl, (inl refl, tt))) in
     omega arith
 
--- two samples at nominal, and one at this frequency, all with power available: the share is 100
+-- two samples at nominal, and one at this frequency, all with power available: the share is 100; as much is held then, of which droop makes 9983 at 56999
 abbrev hertz : ℕ → Slice
 hertz f = 1000 ∷ 1000 ∷ 1000 ∷ f ∷ 1 ∷ 10000 ∷ 10000 ∷ []
 
@@ -196,21 +219,21 @@ abbrev steady : History
 steady = hertz 60000 ∷ hertz 60000 ∷ []
 
 pub riding-on : ¬ CeasesBeyondRideThrough ourEquipment (reportRidingOn quick)
-unfolding reportRidingOn all any within largest voltage broken inRange voltageRegion frequencyRegion regionOf curveFrom curve nameplate varsOf wattsOf streak serving climbed sinceCessation historyStatus historyShare historyRecovery historyWatts historyVars historyReport
+unfolding reportRidingOn all any within largest voltage broken inRange voltageRegion frequencyRegion regionOf curveFrom curve nameplate sideOf drooped varsOf wattsOf streak serving climbed sinceCessation historyStatus historyShare historyRecovery historySide wattsHolding historyHeld historyWatts historyVars historyReport
 riding-on d =
-    let e : _≡_ {A = ℕ} 100 0 = d .nothing (hertz 62001) steady (inr (omega arith)) .0 in
+    let e : _≡_ {A = ℕ} 9983 0 = d .nothing (hertz 56999) steady (inl (omega arith)) .0 in
     omega arith
 
 pub low-end : ¬ CeasesBeyondRideThrough ourEquipment (reportCeasingAt 57000 quick)
-unfolding reportCeasingAt all any within largest voltage broken inRange voltageRegion frequencyRegion regionOf curveFrom curve nameplate varsOf wattsOf streak serving climbed sinceCessation historyStatus historyShare historyRecovery historyWatts historyVars historyReport
+unfolding reportCeasingAt all any within largest voltage broken inRange voltageRegion frequencyRegion regionOf curveFrom curve nameplate sideOf drooped varsOf wattsOf streak serving climbed sinceCessation historyStatus historyShare historyRecovery historySide wattsHolding historyHeld historyWatts historyVars historyReport
 low-end d = false≢true (d .rides (hertz 57000) steady (omega arith) (omega arith) refl .1 (refl, refl))
 
 pub high-end : ¬ CeasesBeyondRideThrough ourEquipment (reportCeasingAt 62000 quick)
-unfolding reportCeasingAt all any within largest voltage broken inRange voltageRegion frequencyRegion regionOf curveFrom curve nameplate varsOf wattsOf streak serving climbed sinceCessation historyStatus historyShare historyRecovery historyWatts historyVars historyReport
+unfolding reportCeasingAt all any within largest voltage broken inRange voltageRegion frequencyRegion regionOf curveFrom curve nameplate sideOf drooped varsOf wattsOf streak serving climbed sinceCessation historyStatus historyShare historyRecovery historySide wattsHolding historyHeld historyWatts historyVars historyReport
 high-end d = false≢true (d .rides (hertz 62000) steady (omega arith) (omega arith) refl .1 (refl, refl))
 
 pub momentary : ¬ CeasesBeyondRideThrough ourEquipment (reportMomentary quick)
-unfolding reportMomentary all any within largest voltage broken inRange voltageRegion frequencyRegion regionOf curveFrom curve nameplate varsOf wattsOf streak serving climbed sinceCessation historyStatus historyShare historyRecovery historyWatts historyVars historyReport
+unfolding reportMomentary all any within largest voltage broken inRange voltageRegion frequencyRegion regionOf curveFrom curve nameplate sideOf drooped varsOf wattsOf streak serving climbed sinceCessation historyStatus historyShare historyRecovery historySide wattsHolding historyHeld historyWatts historyVars historyReport
 momentary d =
     let e : _≡_ {A = ℕ} 4 5 = d .ceased (hertz 56999) steady (inl (omega arith)) refl .0 in
     omega arith
@@ -227,7 +250,7 @@ dark-out = refl
 
 -- uv1's counter stands at 1 in one image and at 0 in the other, and without bits no run tells it
 pub no-bits : ¬ TwoHistoriesBy savedInto reportWithoutBits (ruledBy ourEquipment) quick
-unfolding savedInto image imageFields fieldBytes numberBytes all any within largest voltage rows inRow rising checkFrom linesOf settingsCheck sampleCheck broken inRange voltageRegion frequencyRegion regionOf curveFrom curve nameplate varsOf wattsOf reportOf fresh each readAs settled ruled next shown stepOf streak serving climbed sinceCessation historyStatus historyShare historyRecovery historyWatts historyVars historyReport
+unfolding savedInto image imageFields fieldBytes numberBytes all any within largest voltage rows inRow rising checkFrom linesOf settingsCheck sampleCheck broken inRange voltageRegion frequencyRegion regionOf curveFrom curve nameplate sideOf drooped varsOf wattsOf reportOf fresh each readAs settled ruled next shown stepOf streak serving climbed sinceCessation historyStatus historyShare historyRecovery historySide wattsHolding historyHeld historyWatts historyVars historyReport
 no-bits d =
     let same = d [] (dark ∷ []) tt (inl refl, tt) buffer buffer (omega arith) (omega arith) .1 (agree-without-bits quick quick-accepted (dark .slice) dark-out) in
     let e : _≡_ {A = ℕ} 0 1 = ap (λ (bytes : List ℕ). getD bytes 4 0) same in

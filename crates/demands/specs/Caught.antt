@@ -1,5 +1,5 @@
 -- The second page: the demands are not empty. Wrong boards, operations, readings, images, reports and rules do not meet them (Shams.antt, ShamRefusals.antt,
--- ShamCarryOvers.antt, ShamRules.antt, ShamRamps.antt). The proof of `X` is `x` in proofs/Caught.antt.
+-- ShamCarryOvers.antt, ShamRules.antt, ShamRamps.antt, ShamDroops.antt). The proof of `X` is `x` in proofs/Caught.antt.
 -- Assumes nothing.
 use mathlib.Core.Path.{_≡_}
 use mathlib.Core.Bool.{true}
@@ -18,6 +18,7 @@ use Rattle.formats.specs.Samples.{AnswersSamples}
 use Rattle.claims.specs.Calls.{Call, runOf, acceptedSamples, Under}
 use Rattle.claims.specs.Recovery.{RestoresPower}
 use Rattle.claims.specs.RideThroughEnds.{CeasesBeyondRideThrough}
+use Rattle.claims.specs.Droop.{Droops}
 use Rattle.claims.specs.FirstCause.{RefusesRightly}
 use Rattle.claims.specs.SheetCauses.{SheetsRefusedRightly}
 use Rattle.claims.specs.TripAndReturn.{Shows, Refuses, Keeps, Trips, Returns, ReturnsContinuous, TripAndReturn}
@@ -28,13 +29,14 @@ use Rattle.claims.specs.Printed.{PrintsByHistory}
 use Rattle.carryover.specs.Carries.{ourForward, ourBack, CarryRefusedRightly, RoundTrips, CarriesRecords}
 use Rattle.explain.specs.Explains.{NamesStatusRule, NamesWattsRule}
 use Rattle.demands.specs.Shams.{exampleSheet, tripsEarly, inventsCounters, alwaysTripped, repeatsFirst, keepsRecord, turnsAway}
-use Rattle.demands.specs.Shams.{inventsBits, hidesTrips, saysTripped, savedWithoutRamp, savedWithoutNinth, savedWithoutRecovery, reportWithoutBits, refusesNoWait}
+use Rattle.demands.specs.Shams.{inventsBits, hidesTrips, saysTripped, savedWithoutRamp, savedWithoutNinth, savedWithoutRecovery, savedWithoutSide, savedWithoutHeld, reportWithoutBits, refusesNoWait}
 use Rattle.demands.specs.Shams.{reportFullAtOnce, reportUnheld, reportWithheld, stopsCounting, reportRidingOn, reportCeasingAt, reportMomentary}
 use Rattle.demands.specs.Shams.{takesAsLent, takesUnended, largeNoNumber, stepsUnended, stepsPastReturn}
 use Rattle.demands.specs.Shams.{turnsAwayLastCode, goesOn, saysNothing}
 use Rattle.demands.specs.ShamCarryOvers.{addedFirst, roomFirst, dropsAny, carriesWhatFits, appendsLess, swapsForward, swapsBack}
 use Rattle.demands.specs.ShamRamps.{sixSamples, reportLonger, reportCounted}
-use Rattle.demands.specs.ShamRules.{waitsAtTrip, lastLimit, bestRegion, lastAmongEquals, statusInMandatory}
+use Rattle.demands.specs.ShamDroops.{reportHeldAnew, reportHeldOwn, reportHeldAcross, reportLimited, reportRoundedUp, reportEndedEarly, reportSideKept}
+use Rattle.demands.specs.ShamRules.{waitsAtTrip, lastLimit, bestRegion, lastAmongEquals, droopLast, statusInMandatory}
 use Rattle.demands.specs.ShamRefusals.{refusesLastCode, storesReading, sampleFirst, writesWhatFits, linesFromZero, handsRest}
 use Rattle.demands.specs.Demands.{ours}
 
@@ -64,13 +66,15 @@ pub record ShamReportsCaught : Type 0 where
   pub returns : (¬ Returns ourEquipment saysTripped (exampleSheet 0)) × Refuses saysTripped (exampleSheet 0) × Keeps ourEquipment saysTripped (exampleSheet 0)
       × Trips ourEquipment saysTripped (exampleSheet 0) × ReturnsContinuous ourEquipment saysTripped (exampleSheet 0)
 
--- Demand 3 is false of an image with 0 in the ramp count's place, of one with 0 in the ninth counter's and of one with 40 in the recovery count's: equal
+-- Demand 3 is false of an image with 0 in the ramp count's place, of one with 0 in the ninth counter's, of one with 40 in the recovery count's, of one with 0 in the side's and of one with 0 in the held power's: equal
 -- images, different reports, now or later; and of a report whose bits are always 0: equal reports, different images. Each on an example sheet, which is accepted.
 pub record ShamImagesCaught : Type 0 where
   pub accepted : (settingsAccepted (exampleSheet 0) ≡ true) × (settingsAccepted (exampleSheet 2) ≡ true)
   pub ramp : ¬ TwoHistoriesBy savedWithoutRamp (historyReport ourEquipment) ours (exampleSheet 0)
   pub ninth : ¬ TwoHistoriesBy savedWithoutNinth (historyReport ourEquipment) ours (exampleSheet 2)
   pub recovery : ¬ TwoHistoriesBy savedWithoutRecovery (historyReport ourEquipment) ours (exampleSheet 0)
+  pub side : ¬ TwoHistoriesBy savedWithoutSide (historyReport ourEquipment) ours (exampleSheet 0)
+  pub held : ¬ TwoHistoriesBy savedWithoutHeld (historyReport ourEquipment) ours (exampleSheet 0)
   pub bits : ¬ TwoHistoriesBy savedInto reportWithoutBits ours (exampleSheet 0)
 
 -- Five samples are enough for two ramp counts, and four are not: that some pair needs six is refuted by `OurRampsTold`, and that four are always enough by `OurRampsUntold`. A board whose ramps are a step
@@ -98,6 +102,17 @@ pub record ShamRideThroughEndsCaught : Type 0 where
   pub high-end : ¬ CeasesBeyondRideThrough ourEquipment (reportCeasingAt 62000 (exampleSheet 0))
   pub momentary : ¬ CeasesBeyondRideThrough ourEquipment (reportMomentary (exampleSheet 0))
   pub stopped : ¬ TripAndReturn ourEquipment stopsCounting (exampleSheet 0)
+
+-- Seven shams do not droop as they should. By what they hold: the watts before each step of an event; those of its first step; what was held on the other side. By their watts: the operator's limit still binds; the quotient is
+-- rounded up. By their side: none at 60037; one that stays through a trip.
+pub record ShamDroopsCaught : Type 0 where
+  pub anew : ¬ Droops ourEquipment (exampleSheet 0) (reportHeldAnew (exampleSheet 0))
+  pub own : ¬ Droops ourEquipment (exampleSheet 0) (reportHeldOwn (exampleSheet 0))
+  pub across : ¬ Droops ourEquipment (exampleSheet 0) (reportHeldAcross (exampleSheet 0))
+  pub limited : ¬ Droops ourEquipment (exampleSheet 0) (reportLimited (exampleSheet 0))
+  pub rounded-up : ¬ Droops ourEquipment (exampleSheet 0) (reportRoundedUp (exampleSheet 0))
+  pub ended-early : ¬ Droops ourEquipment (exampleSheet 0) (reportEndedEarly (exampleSheet 0))
+  pub side-kept : ¬ Droops ourEquipment (exampleSheet 0) (reportSideKept (exampleSheet 0))
 
 -- Demand 1 is false of operations that refuse a good sample and leave the record; that refuse as they should and change the record; that look at
 -- the sample before the settings; and that write into a buffer which they refuse. It is false of a reading that turns away a good sheet, and of
@@ -129,7 +144,7 @@ pub record ShamPrintingsCaught : Type 0 where
   pub nothing : ¬ PrintsByHistory ourEquipment saysNothing
 
 -- Six shams do not carry over as they should. By their refusals: 11 looked for before 10, 9 before 11, and a target written and then refused. By the round trips: 39
--- appended in place of 40, and any last byte left out. The sixth swaps two bytes both ways: it refuses as it should and its round trips hold, and only the images of records tell it from ours.
+-- appended in place of 40, and any last bytes left out. The sixth swaps two bytes both ways: it refuses as it should and its round trips hold, and only the images of records tell it from ours.
 pub record ShamCarryOversCaught : Type 0 where
   pub added-first : ¬ CarryRefusedRightly ourForward addedFirst
   pub room-first : ¬ CarryRefusedRightly ourForward roomFirst
@@ -138,11 +153,12 @@ pub record ShamCarryOversCaught : Type 0 where
   pub dropped : ¬ RoundTrips ourForward dropsAny
   pub swaps : CarryRefusedRightly swapsForward swapsBack × RoundTrips swapsForward swapsBack × (¬ CarriesRecords swapsForward swapsBack)
 
--- Five shams do not name the rules as they should: the wait named at the step of a trip; the last limit in place of the first where two have run out; the cause of the best region; the last limit of
--- the watts in place of the first among equals; and the status named in mandatory operation.
+-- Six shams do not name the rules as they should: the wait named at the step of a trip; the last limit in place of the first where two have run out; the cause of the best region; the last limit of
+-- the watts in place of the first among equals; droop listed last in an event; and the status named in mandatory operation.
 pub record ShamRulesCaught : Type 0 where
   pub waits : ¬ NamesStatusRule ourEquipment (exampleSheet 0) (waitsAtTrip (exampleSheet 0))
   pub turned : ¬ NamesStatusRule ourEquipment (exampleSheet 0) (lastLimit (exampleSheet 0))
   pub best : ¬ NamesStatusRule ourEquipment (exampleSheet 0) (bestRegion (exampleSheet 0))
   pub last : ¬ NamesWattsRule ourEquipment (exampleSheet 0) (lastAmongEquals (exampleSheet 0))
+  pub droop : ¬ NamesWattsRule ourEquipment (exampleSheet 0) (droopLast (exampleSheet 0))
   pub mandatory : ¬ NamesWattsRule ourEquipment (exampleSheet 0) (statusInMandatory (exampleSheet 0))

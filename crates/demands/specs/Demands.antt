@@ -55,6 +55,7 @@ use Rattle.claims.specs.Sound.{Sound}
 use Rattle.claims.specs.Alike.{Alike}
 use Rattle.claims.specs.Recovery.{RestoresPower}
 use Rattle.claims.specs.RideThroughEnds.{CeasesBeyondRideThrough}
+use Rattle.claims.specs.Droop.{Droops}
 use Rattle.claims.specs.Powers.{LargestBeside, RisingPoints, FollowsPoints}
 use Rattle.claims.specs.FirstCause.{RefusesRightly}
 use Rattle.claims.specs.SheetCauses.{SheetsRefusedRightly}
@@ -307,6 +308,14 @@ OurRecovery = (st : Settings) → settingsAccepted st ≡ true → RestoresPower
 abbrev pub OurRideThroughEnds : Type 0
 OurRideThroughEnds = (st : Settings) → settingsAccepted st ≡ true → CeasesBeyondRideThrough ourEquipment (historyReport ourEquipment st)
 
+-- Frequency droop, for the network owners: `Droops` in claims/specs/Droop.antt, of the reports of histories too. In service above 60036 mHz a board is in an event on side 1, below 59964 on side 2, the step of its
+-- return included; in the deadband between, and when tripped, there is none. Throughout an event the held power is the watts of the last report before it. Where power is given in one, the watts are the least of what
+-- volt-watt curve, nameplate, recovery and available power leave, and of the held power less or plus ten thirds of the distance, off by less than one and not below 0; operator's limit and share do not bind. Back in
+-- the deadband the old limits hold at once. No watts are above the available power, on the low side as anywhere; on the high side none are above the held power, and a frequency that rises further never raises them: neither in the sample's place, nor from
+-- one sample to the next, all else alike and where the recovery count does not rise.
+abbrev pub OurDroop : Type 0
+OurDroop = (st : Settings) → settingsAccepted st ≡ true → Droops ourEquipment st (historyReport ourEquipment st)
+
 -- How soon two ramp counts come apart, the longest ramp being 60000 steps: claims/specs/RampPairs.antt. Under every accepted sheet, for every two lists of step calls, refused ones included, whose images, each saved
 -- into a buffer that 9 lets pass, differ, and in no byte outside the ramp count's four: some common run of at most five accepted samples ends in reports that differ, as the accepted samples alone give them.
 abbrev pub OurRampsTold : Type 0
@@ -318,11 +327,11 @@ OurRampsUntold = RampsUntold ourEquipment ours 4
 
 -- ---- images carried over
 
--- Images of the old firmware, from before the recovery count, which have 45 bytes, carried forward to this one, and images of this one carried back: carryover/specs/Carries.antt, of
+-- Images of the old firmware, from before the recovery count and frequency droop, which have 45 bytes, carried forward to this one, and images of this one carried back: carryover/specs/Carries.antt, of
 -- our two operations. Each is refused by the number of its first cause, 10, 11, 9 in this order, and leaves the target then; the bytes behind the image stay
 -- (`CarryRefusedRightly`). Each number once more by what it is given for (`CarryNumbered`). An image carried there and back, or back and there where that is allowed, is what it
--- was, and back is allowed exactly where the last byte is 40 (`RoundTrips`). A record's old image becomes the image of that record with a recovery count of 40; its image can be
--- carried back exactly where the count is 40, and becomes its old image (`CarriesRecords`).
+-- was, and back is allowed exactly where the last four bytes are 40, 0, 0, 0 (`RoundTrips`). A record's old image becomes the image of that record with a recovery count of 40, no side
+-- and no held power; its image can be carried back exactly where it has these itself, and becomes its old image (`CarriesRecords`).
 pub record OurCarryOver : Type 0 where
   pub refuses : CarryRefusedRightly ourForward ourBack
   pub numbered : CarryNumbered ourForward ourBack
@@ -337,7 +346,7 @@ OneCarryOver =
     → (forward source target ≡ ourForward source target) × (back source target ≡ ourBack source target)
 
 -- For an owner who goes back: `CarriesHistoriesBack`. After any list of calls under an accepted sheet, refused ones included, the record's image can be carried back
--- exactly where the last report shows a recovery count of 40, and so wherever it says `tripped`.
+-- exactly where the last report shows a recovery count of 40, no side and no held power, and so wherever it says `tripped`.
 abbrev pub OurWayBack : Type 0
 OurWayBack = (st : Settings) → settingsAccepted st ≡ true → CarriesHistoriesBack ourBack ours st
 
@@ -389,6 +398,10 @@ AnyRecovery = (e : Equipment) → Sound e → (st : Settings) → settingsAccept
 
 abbrev pub AnyRideThroughEnds : Type 0
 AnyRideThroughEnds = (e : Equipment) → Sound e → (st : Settings) → settingsAccepted st ≡ true → CeasesBeyondRideThrough e (historyReport e st)
+
+-- droop, for any sensing table and any voltage regions; nothing is asked of them
+abbrev pub AnyDroop : Type 0
+AnyDroop = (e : Equipment) (st : Settings) → settingsAccepted st ≡ true → Droops e st (historyReport e st)
 
 abbrev pub AnyWayBack : Type 0
 AnyWayBack = (e : Equipment) → Sound e → (st : Settings) → settingsAccepted st ≡ true → CarriesHistoriesBack ourBack (ruledBy e) st

@@ -11,6 +11,7 @@ use Rattle.rules.specs.Samples.{Slice}
 use Rattle.rules.specs.Counters.{undervoltage, overvoltage, broken}
 use Rattle.rules.specs.Regions.{regionOf, ourEquipment}
 use Rattle.rules.specs.Curves.{curve, nameplate}
+use Rattle.rules.specs.Droop.{sideOf, drooped}
 use Rattle.rules.specs.Defaults.{defaultSettings}
 use Rattle.rules.specs.declared.Settings.{Settings}
 use Rattle.rules.specs.declared.Refusal.the-variants.{Range}
@@ -48,6 +49,8 @@ pub data Edge : Type 0 where
   varsAt : (volts : ℕ) → ℤ → Edge
   wattsAt : (volts : ℕ) → ℤ → Edge
   nameplateLeaves : (vars : ℤ) → (watts : ℕ) → Edge
+  sideAt : (hertz side : ℕ) → Edge
+  droopsTo : (held hertz watts : ℕ) → Edge
 
 -- a row holds, by the definitions
 abbrev pub Holds : Edge → Type 0
@@ -61,6 +64,8 @@ Holds (isInAt hertz region) = regionOf ourEquipment (nominalAt hertz) ≡ region
 Holds (varsAt volts vars) = curve (defaultSettings .var) volts ≡ vars
 Holds (wattsAt volts watts) = curve (defaultSettings .watt) volts ≡ watts
 Holds (nameplateLeaves vars watts) = nameplate vars ≡ watts
+Holds (sideAt hertz side) = sideOf hertz ≡ side
+Holds (droopsTo held hertz watts) = drooped hertz held ≡ watts
 
 unfoldable pub edges : List Edge
 edges =
@@ -95,6 +100,17 @@ edges =
     ∷ nameplateLeaves (pos 4400) 8979
     ∷ nameplateLeaves (pos 10000) 0
     ∷ nameplateLeaves (negℤ (pos 10000)) 0
+    ∷ sideAt 59963 2
+    ∷ sideAt 59964 0
+    ∷ sideAt 60036 0
+    ∷ sideAt 60037 1
+    ∷ droopsTo 5000 60037 4997
+    ∷ droopsTo 5000 60038 4994
+    ∷ droopsTo 5000 61536 0
+    ∷ droopsTo 5000 61537 0
+    ∷ droopsTo 5000 59963 5003
+    ∷ droopsTo 5000 59962 5006
+    ∷ droopsTo 5000 58464 10000
     ∷ []
 
 abbrev pub AllHold : List Edge → Type 0

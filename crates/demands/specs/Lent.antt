@@ -17,18 +17,23 @@ use Rattle.demands.specs.Shams.{limit, exampleSheet}
 abbrev pub nine : ℕ → ℕ → ℕ → ℕ → ℕ → ℕ → ℕ → ℕ → ℕ → List ℕ
 nine uv1 uv2 ov1 ov2 uf1 uf2 of1 of2 ninth = uv1 ∷ uv2 ∷ ov1 ∷ ov2 ∷ uf1 ∷ uf2 ∷ of1 ∷ of2 ∷ ninth ∷ []
 
--- status, counters, ramp count, watts, vars, with a full recovery count
+-- status, counters, ramp count, watts, vars, with a full recovery count, on no side and with no held power
 abbrev pub board : ℕ → List ℕ → ℕ → ℕ → ℤ → Board
 board status counters ramp watts vars =
-    record { status = status; counters = counters; ramp = ramp; watts = watts; vars = vars; recovery = 40 }
+    record { status = status; counters = counters; ramp = ramp; watts = watts; vars = vars; recovery = 40; side = 0; held = 0 }
 
--- a record with another recovery count
-abbrev pub counting : ℕ → Board → Board
-counting n b = record { status = b .status; counters = b .counters; ramp = b .ramp; watts = b .watts; vars = b .vars; recovery = n }
+-- a record with another recovery count, side and held power
+abbrev pub having : ℕ → ℕ → ℕ → Board → Board
+having recovery side held b =
+    record { status = b .status; counters = b .counters; ramp = b .ramp; watts = b .watts; vars = b .vars; recovery = recovery; side = side; held = held }
 
 -- records that differ in status and recovery count alone
 abbrev pub recoveringAt : ℕ → ℕ → Board
-recoveringAt status n = counting n (board status (nine 7 7 7 7 7 7 7 7 1) 0 5000 (pos 100))
+recoveringAt status n = having n 0 0 (board status (nine 7 7 7 7 7 7 7 7 1) 0 5000 (pos 100))
+
+-- records that differ in status, side and held power alone
+abbrev pub eventAt : ℕ → ℕ → ℕ → Board
+eventAt status side held = having 40 side held (board status (nine 7 7 7 7 7 7 7 7 1) 0 5000 (pos 100))
 
 -- a lent record, and what it is read as
 pub record LentRow : Type 0 where
@@ -94,11 +99,25 @@ lentRows =
     ∷ stands (recoveringAt 5 1)
     ∷ stands (recoveringAt 3 0)
     ∷ stands (recoveringAt 0 0)
+    -- a side: without a name, and as it stands in service, whatever is held; none when tripped
+    ∷ lentRow (eventAt 1 3 5000) (eventAt 1 0 5000)
+    ∷ lentRow (eventAt 5 255 0) (eventAt 5 0 0)
+    ∷ stands (eventAt 1 1 5000)
+    ∷ stands (eventAt 3 2 0)
+    ∷ stands (eventAt 2 0 5000)
+    ∷ lentRow (eventAt 0 1 0) (eventAt 0 0 0)
+    ∷ lentRow (eventAt 0 2 5000) (eventAt 0 0 0)
+    ∷ lentRow (eventAt 6 1 5000) (eventAt 0 0 0)
+    -- a held power: above the rating, and as it stands in service; none when tripped
+    ∷ lentRow (eventAt 1 1 10001) (eventAt 1 1 10000)
+    ∷ lentRow (eventAt 4 2 65535) (eventAt 4 2 10000)
+    ∷ stands (eventAt 4 2 10000)
+    ∷ lentRow (eventAt 0 0 10001) (eventAt 0 0 0)
     -- every field at its highest
-    ∷ lentRow (counting 255 (board 255 (nine 4294967295 4294967295 4294967295 4294967295 4294967295 4294967295 4294967295 4294967295 4294967295) 4294967295 65535 (pos 32767)))
+    ∷ lentRow (having 255 255 65535 (board 255 (nine 4294967295 4294967295 4294967295 4294967295 4294967295 4294967295 4294967295 4294967295 4294967295) 4294967295 65535 (pos 32767)))
     (board 0 (nine 2100 200 1300 16 30000 16 30000 16 1) 0 10000 (pos 32767))
-    ∷ lentRow (counting 255 (board 5 (nine 4294967295 4294967295 4294967295 4294967295 4294967295 4294967295 4294967295 4294967295 4294967295) 4294967295 65535 (pos 32767)))
-    (board 5 (nine 2100 200 1300 16 30000 16 30000 16 1) 100 10000 (pos 32767))
+    ∷ lentRow (having 255 255 65535 (board 5 (nine 4294967295 4294967295 4294967295 4294967295 4294967295 4294967295 4294967295 4294967295 4294967295) 4294967295 65535 (pos 32767)))
+    (having 40 0 10000 (board 5 (nine 2100 200 1300 16 30000 16 30000 16 1) 100 10000 (pos 32767)))
     ∷ []
 
 -- the ninth counter where the wait is 60000, which is its top then

@@ -6,5 +6,6 @@ pub mod Lent
 pub mod Contracts
 pub mod ShamRules
 pub mod ShamRamps
+pub mod ShamDroops
 pub mod Demands
 pub mod Caught

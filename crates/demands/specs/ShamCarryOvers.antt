@@ -17,19 +17,19 @@ outcomeBy (suc n) image target = record { number = suc n; target = target }
 
 -- ---- back
 
--- looks at the recovery byte before the length: 11 before 10
+-- looks at the last bytes before the length: 11 before 10
 unfoldable pub addedFirst : CarryOperation
 addedFirst source target =
     outcomeBy (first (cause 11 (not (hasAdded source)) ∷ cause 10 (not (eqb (length source) imageLength)) ∷ cause 9 (not (leb oldLength (length target))) ∷ []))
     (carriedBack source) target
 
--- looks at the target before the recovery byte: 9 before 11
+-- looks at the target before the last bytes: 9 before 11
 unfoldable pub roomFirst : CarryOperation
 roomFirst source target =
     outcomeBy (first (cause 10 (not (eqb (length source) imageLength)) ∷ cause 9 (not (leb oldLength (length target))) ∷ cause 11 (not (hasAdded source)) ∷ []))
     (carriedBack source) target
 
--- leaves out the last byte, whatever it is
+-- leaves out the last bytes, whatever they are
 unfoldable pub dropsAny : CarryOperation
 dropsAny source target =
     outcomeBy (first (cause 10 (not (eqb (length source) imageLength)) ∷ cause 9 (not (leb oldLength (length target))) ∷ [])) (carriedBack source) target
@@ -44,9 +44,9 @@ carriesWhatFits source target =
       target = cond (eqb (length source) oldLength) (take (length target) (carriedForward source ++ drop imageLength target)) target;
     }
 
--- appends 39
+-- appends a recovery count of 39
 unfoldable pub appendsLess : CarryOperation
-appendsLess source target = outcomeBy (first (forwardCauses source target)) (source ++ (39 ∷ [])) target
+appendsLess source target = outcomeBy (first (forwardCauses source target)) (source ++ (39 ∷ 0 ∷ 0 ∷ 0 ∷ [])) target
 
 -- ---- both
 

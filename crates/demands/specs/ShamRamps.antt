@@ -37,4 +37,4 @@ reportLonger st h = historyReport ourEquipment (longer st) h
 abbrev pub reportCounted : Settings → History → Items
 reportCounted st h =
     let r = historyReport ourEquipment st h in
-    record { status = r .status; bits = r .bits; share = min (st .ramp) (climbed ourEquipment st h); recovery = r .recovery; watts = r .watts; vars = r .vars }
+    record { status = r .status; bits = r .bits; share = min (st .ramp) (climbed ourEquipment st h); recovery = r .recovery; side = r .side; held = r .held; watts = r .watts; vars = r .vars }

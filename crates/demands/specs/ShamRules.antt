@@ -1,17 +1,18 @@
 -- Spec 13.11: sham rules, of a status and of the watts, that the claims of explain/specs/Explains.antt must stop.
 -- Assumes nothing.
 use mathlib.Core.Bool.{Bool, cond, _&&_}
-use mathlib.Core.List.{List, [], _∷_, map}
+use mathlib.Core.List.{List, [], _∷_, _++_, map}
 use Prim.Native.Nat.{ℕ, suc}
 use lib.Dec.{eqb, leb}
 use Rattle.rules.specs.Samples.{Slice, frequency, lowest, highest}
 use Rattle.rules.specs.Counters.{tripRules}
 use Rattle.rules.specs.Regions.{rank, frequencyRegion, voltageRegion, ourEquipment}
-use Rattle.rules.specs.Service.{Limited, exports, leftBy}
-use Rattle.rules.specs.History.{History, complete, serving, historyStatus}
+use Rattle.rules.specs.Droop.{noSide}
+use Rattle.rules.specs.Service.{Limited, exports, firstLimits, leftBy}
+use Rattle.rules.specs.History.{History, complete, serving, historyStatus, historyReport}
 use Rattle.rules.specs.declared.Settings.{Settings}
 use Rattle.rules.specs.declared.Region.{Region}
-use Rattle.explain.specs.Explained.{limitNamed, firstWorst, historyStatusRule, historyLimits, historyWattsRule}
+use Rattle.explain.specs.Explained.{limitNamed, firstWorst, historyStatusRule, lastLimits, wattsRule, historyLimits, historyWattsRule}
 use Rattle.explain.specs.declared.StatusRule.{StatusRule}
 use Rattle.explain.specs.declared.WattsRule.{WattsRule}
 
@@ -66,6 +67,14 @@ lastAmongEquals st [] = WattsRule.Status
 lastAmongEquals st (x ∷ h) =
     let limits = historyLimits ourEquipment st x h in
     cond (exports (historyStatus ourEquipment st (x ∷ h))) (lastLeaving WattsRule.Status (leftBy limits) limits) WattsRule.Status
+
+-- lists droop last in an event, as it has the last number
+unfoldable pub droopLast : Settings → History → WattsRule
+droopLast st [] = WattsRule.Status
+droopLast st (x ∷ h) =
+    let r = historyReport ourEquipment st (x ∷ h) in
+    let turned = lastLimits ourEquipment st x (r .recovery) (r .vars) ++ firstLimits x (r .share) (r .held) in
+    cond (eqb (r .side) noSide) (historyWattsRule ourEquipment st (x ∷ h)) (wattsRule (r .status) turned)
 
 -- names the status in mandatory operation
 unfoldable pub statusInMandatory : Settings → History → WattsRule

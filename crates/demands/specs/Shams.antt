@@ -17,6 +17,7 @@ use Rattle.rules.specs.Regions.{ourEquipment}
 use Rattle.rules.specs.Reports.{Items, reportOf}
 use Rattle.rules.specs.History.{History, historyReport}
 use Rattle.rules.specs.Images.{savedInto}
+use Rattle.rules.specs.Droop.{noSide, sideAfter, heldAfter}
 use Rattle.rules.specs.Service.{inService, recoveryTop, varsOf, wattsOf}
 use Rattle.rules.specs.Refusals.{answerNumber}
 use Rattle.rules.specs.Records.{fresh, settled, ruled, shown, stepOf}
@@ -80,7 +81,7 @@ reporting st b = record { board = b; answer = Answer.Reported (reportOf (shown o
 
 -- the record of a step, tripped instead
 abbrev trippedInstead : Settings → Slice → Board → Stepped
-trippedInstead st x b = reporting st (settled ourEquipment st x (b .counters) false 0 recoveryTop)
+trippedInstead st x b = reporting st (settled ourEquipment st x (b .counters) false 0 recoveryTop 0)
 
 -- trips before a clearing time is over: in service, as soon as a limit's counter is not 0
 unfoldable pub tripsEarly : Program
@@ -95,7 +96,7 @@ tripsEarly =
 -- a record with other counters
 abbrev withCounters : List ℕ → Board → Board
 withCounters ns b =
-    record { status = b .status; counters = ns; ramp = b .ramp; watts = b .watts; vars = b .vars; recovery = b .recovery }
+    record { status = b .status; counters = ns; ramp = b .ramp; watts = b .watts; vars = b .vars; recovery = b .recovery; side = b .side; held = b .held }
 
 -- invents its counters: its reports are right, and its record holds every counter twice over
 unfoldable pub inventsCounters : Program
@@ -169,11 +170,11 @@ showing f =
 -- every bit turned over
 abbrev pub turnedOver : Bool → Report → Report
 turnedOver was r =
-    record { status = r .status; bits = 511 - r .bits; share = r .share; recovery = r .recovery; watts = r .watts; vars = r .vars }
+    record { status = r .status; bits = 511 - r .bits; share = r .share; recovery = r .recovery; side = r .side; held = r .held; watts = r .watts; vars = r .vars }
 
 abbrev withStatus : ℕ → Report → Report
 withStatus status r =
-    record { status = status; bits = r .bits; share = r .share; recovery = r .recovery; watts = r .watts; vars = r .vars }
+    record { status = status; bits = r .bits; share = r .share; recovery = r .recovery; side = r .side; held = r .held; watts = r .watts; vars = r .vars }
 
 -- `entering` where a board that was in service is tripped
 abbrev pub entering : Bool → Report → Report
@@ -197,10 +198,14 @@ saysTripped = showing tripped
 
 -- ---- sham images and reports
 
+-- a record with another ramp count, recovery count, side and held power
+abbrev withCounts : ℕ → ℕ → ℕ → ℕ → Board → Board
+withCounts ramp recovery side held b =
+    record { status = b .status; counters = b .counters; ramp = ramp; watts = b .watts; vars = b .vars; recovery = recovery; side = side; held = held }
+
 -- an image with 0 in the ramp count's place
 unfoldable pub savedWithoutRamp : Board → List ℕ → List ℕ
-savedWithoutRamp b buffer =
-    savedInto (record { status = b .status; counters = b .counters; ramp = 0; watts = b .watts; vars = b .vars; recovery = b .recovery }) buffer
+savedWithoutRamp b buffer = savedInto (withCounts 0 (b .recovery) (b .side) (b .held) b) buffer
 
 -- an image with 0 in the ninth counter's place
 unfoldable pub savedWithoutNinth : Board → List ℕ → List ℕ
@@ -208,29 +213,36 @@ savedWithoutNinth b buffer = savedInto (withCounters (set (b .counters) 8 0) b) 
 
 -- an image with 40 in the recovery count's place
 unfoldable pub savedWithoutRecovery : Board → List ℕ → List ℕ
-savedWithoutRecovery b buffer =
-    savedInto (record { status = b .status; counters = b .counters; ramp = b .ramp; watts = b .watts; vars = b .vars; recovery = recoveryTop }) buffer
+savedWithoutRecovery b buffer = savedInto (withCounts (b .ramp) recoveryTop (b .side) (b .held) b) buffer
+
+-- an image with 0 in the side's place
+unfoldable pub savedWithoutSide : Board → List ℕ → List ℕ
+savedWithoutSide b buffer = savedInto (withCounts (b .ramp) (b .recovery) noSide (b .held) b) buffer
+
+-- an image with 0 in the held power's place
+unfoldable pub savedWithoutHeld : Board → List ℕ → List ℕ
+savedWithoutHeld b buffer = savedInto (withCounts (b .ramp) (b .recovery) (b .side) 0 b) buffer
 
 -- a report whose bits are always 0
 unfoldable pub reportWithoutBits : Settings → History → Items
 reportWithoutBits st h =
     let r = historyReport ourEquipment st h in
-    record { status = r .status; bits = replicate 9 false; share = r .share; recovery = r .recovery; watts = r .watts; vars = r .vars }
+    record { status = r .status; bits = replicate 9 false; share = r .share; recovery = r .recovery; side = r .side; held = r .held; watts = r .watts; vars = r .vars }
 
 -- a report with another recovery count and other watts
 abbrev withRecovery : ℕ → ℕ → Items → Items
-withRecovery recovery watts r = record { status = r .status; bits = r .bits; share = r .share; recovery = recovery; watts = watts; vars = r .vars }
+withRecovery recovery watts r = record { status = r .status; bits = r .bits; share = r .share; recovery = recovery; side = r .side; held = r .held; watts = watts; vars = r .vars }
 
 -- it shows a full recovery count, whatever came before
 unfoldable pub reportFullAtOnce : Settings → History → Items
 reportFullAtOnce st h = let r = historyReport ourEquipment st h in withRecovery recoveryTop (r .watts) r
 
--- it counts as it should, and gives what the other limits leave at once: the jolt
+-- it counts as it should, and gives what the other limits leave at once: the jolt; what it holds in an event is what ours holds
 unfoldable pub reportUnheld : Settings → History → Items
 reportUnheld st [] = historyReport ourEquipment st []
 reportUnheld st (x ∷ h) =
     let r = historyReport ourEquipment st (x ∷ h) in
-    withRecovery (r .recovery) (wattsOf ourEquipment st x (r .status) (r .share) recoveryTop) r
+    withRecovery (r .recovery) (wattsOf ourEquipment st x (r .status) (r .share) recoveryTop (r .held)) r
 
 -- it counts as it should, and gives nothing until the count is full: the jolt, 0.4 s later
 unfoldable pub reportWithheld : Settings → History → Items
@@ -251,11 +263,12 @@ stopsCounting =
       step = λ b st x.
           let t = honest b st x in
           let on = inService (b .status) && permitted x in
-          let held = settled ourEquipment st x (take 8 (b .counters) ++ (0 ∷ [])) on (cond on (b .ramp) 0) (cond on 0 recoveryTop) in
-          cond (beyondRideThrough x && eqb (answerNumber (t .answer)) 0) (reporting st held) t;
+          let held = heldAfter (b .side) (sideAfter on (frequency x)) (b .held) (b .watts) in
+          let stood = settled ourEquipment st x (take 8 (b .counters) ++ (0 ∷ [])) on (cond on (b .ramp) 0) (cond on 0 recoveryTop) held in
+          cond (beyondRideThrough x && eqb (answerNumber (t .answer)) 0) (reporting st stood) t;
     }
 
--- it goes on giving power there, in mandatory operation, whatever the voltages: with a full recovery count, as much as the other limits leave
+-- it goes on giving power there, in mandatory operation, whatever the voltages: with a full recovery count, as much as the other limits leave, with what ours holds
 unfoldable pub reportRidingOn : Settings → History → Items
 reportRidingOn st [] = historyReport ourEquipment st []
 reportRidingOn st (x ∷ h) =
@@ -265,7 +278,9 @@ reportRidingOn st (x ∷ h) =
       bits = r .bits;
       share = r .share;
       recovery = recoveryTop;
-      watts = wattsOf ourEquipment st x 3 (r .share) recoveryTop;
+      side = r .side;
+      held = r .held;
+      watts = wattsOf ourEquipment st x 3 (r .share) recoveryTop (r .held);
       vars = varsOf ourEquipment st x 3;
     } in
     cond (beyondRideThrough x && inService (r .status)) riding r
@@ -275,14 +290,14 @@ unfoldable pub reportCeasingAt : ℕ → Settings → History → Items
 reportCeasingAt end st [] = historyReport ourEquipment st []
 reportCeasingAt end st (x ∷ h) =
     let r = historyReport ourEquipment st (x ∷ h) in
-    let ceased : Items = record { status = 5; bits = r .bits; share = r .share; recovery = 0; watts = 0; vars = pos 0 } in
+    let ceased : Items = record { status = 5; bits = r .bits; share = r .share; recovery = 0; side = r .side; held = r .held; watts = 0; vars = pos 0 } in
     cond (eqb (frequency x) end && inService (r .status)) ceased r
 
 -- it shows momentary cessation where it ceases to energize
 unfoldable pub reportMomentary : Settings → History → Items
 reportMomentary st h =
     let r = historyReport ourEquipment st h in
-    record { status = min 4 (r .status); bits = r .bits; share = r .share; recovery = r .recovery; watts = r .watts; vars = r .vars }
+    record { status = min 4 (r .status); bits = r .bits; share = r .share; recovery = r .recovery; side = r .side; held = r .held; watts = r .watts; vars = r .vars }
 
 -- ---- sham readings of sheets
 

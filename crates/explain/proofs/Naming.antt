@@ -9,12 +9,14 @@ use native.Mathlib.Nat.{zero-add}
 use lib.ListN.{getD}
 use Rattle.rules.specs.Tests.{any}
 use Rattle.rules.specs.Settings.{limitAt}
-use Rattle.rules.specs.Samples.{Slice, Equipment, permitted}
+use Rattle.rules.specs.Samples.{Slice, Equipment, frequency, permitted}
 use Rattle.rules.specs.Counters.{kinds, undervoltage, limitRule, tripRules}
 use Rattle.rules.specs.Reports.{reportOf}
-use Rattle.rules.specs.History.{History, complete, serving, historyWatts, historyVars, historyReport}
+use Rattle.rules.specs.History.{History, complete, serving, historyStatus, historySide, wattsHolding, historyWatts, historyVars, historyReport}
 use Rattle.rules.specs.declared.Settings.{Settings}
 use Rattle.claims.specs.Held.{Held, brokenAt, WaitFull}
+use Rattle.rules.specs.Regions.{regionOf}
+use Rattle.laws.proofs.Events.{giving-side}
 use Rattle.laws.proofs.Trip.{complete-held, ran-out, trip-law, return-law}
 use Rattle.laws.proofs.Demand2.{service-of}
 use Rattle.explain.specs.Explained.{historyStatusRule, historyWattsRule}
@@ -96,8 +98,8 @@ module _ (e : Equipment) (st : Settings) where
   fresh-watts = refl
 
   watts : (x : Slice) (h : History) → WattsNamed e st x (reportOf (historyReport e st (x ∷ h))) (historyWattsRule e st (x ∷ h))
-  unfolding historyWattsRule historyReport reportOf historyWatts historyVars
-  watts x h = watts-named e st x (reportOf (historyReport e st (x ∷ h))) refl refl
+  unfolding historyWattsRule historyReport reportOf historyWatts wattsHolding historyVars historySide historyStatus
+  watts x h = watts-named e st x (reportOf (historyReport e st (x ∷ h))) refl refl (giving-side (serving e st (x ∷ h)) (regionOf e x) _ (frequency x))
 
   pub names-watts : NamesWattsRule e st (historyWattsRule e st)
   names-watts = record { fresh = fresh-watts; named = watts }

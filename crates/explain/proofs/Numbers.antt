@@ -30,6 +30,7 @@ wattsOf n =
     ∷ WattsRule.VoltWatt
     ∷ WattsRule.NameplateRating
     ∷ WattsRule.CessationRecovery
+    ∷ WattsRule.FrequencyDroop
     ∷ []) (n - 1) WattsRule.Status
 
 status-back : (r : StatusRule) → statusOf (statusRuleNumber r) (limitPlace r) ≡ r
@@ -49,6 +50,7 @@ watts-back WattsRule.RampShare = refl
 watts-back WattsRule.VoltWatt = refl
 watts-back WattsRule.NameplateRating = refl
 watts-back WattsRule.CessationRecovery = refl
+watts-back WattsRule.FrequencyDroop = refl
 
 pub numbers-tell : NumbersTell
 numbers-tell =

@@ -67,17 +67,18 @@ module _ (e : Equipment) (b : Board) (st : Settings) (x : Slice) (r : Report) (s
 
   -- ---- the watts
 
-  watts-is : w ≡ wattsRule (r .status) (powerLimits e st x (r .share) (r .recovery) (r .vars))
+  watts-is : w ≡ wattsRule (r .status) (powerLimits e st x (r .share) (r .recovery) (r .held) (r .vars))
   unfolding recordWattsRule shown reportOf
   watts-is =
       sym (rules-are .1) ∙ ap (recordWattsRule e st x) left
-      ∙ ap (λ (p : Report). wattsRule (p .status) (powerLimits e st x (p .share) (p .recovery) (p .vars))) (sym shows)
+      ∙ ap (λ (p : Report). wattsRule (p .status) (powerLimits e st x (p .share) (p .recovery) (p .held) (p .vars))) (sym shows)
 
   pub watts-on-record : WattsNamed e st x r w
   watts-on-record =
       let ok = of.sheet-accepted e st x b (stepOf e b st x) refl r told in
       subst (WattsNamed e st x r) (sym watts-is)
-      (watts-named e st x r (of.watts-are e st x b (stepOf e b st x) refl r told ok) (of.vars-are e st x b (stepOf e b st x) refl r told ok))
+      (watts-named e st x r (of.watts-are e st x b (stepOf e b st x) refl r told ok) (of.vars-are e st x b (stepOf e b st x) refl r told ok)
+      (of.side-is e st x b (stepOf e b st x) refl r told ok))
 
   -- ---- the status
 

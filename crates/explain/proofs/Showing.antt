@@ -21,7 +21,7 @@ use Rattle.claims.specs.FirstCause.{first, settingsCauses, sampleCauses}
 use Rattle.claims.specs.TripAndReturn.{recordOf, Next}
 use Rattle.basics.proofs.Bools.{both}
 use Rattle.laws.proofs.Counting.{full-is, each-of}
-use Rattle.laws.proofs.Trace.{counters-are, service-is, ramp-is, recovery-is, next-is, status-is, vars-is, shown-is}
+use Rattle.laws.proofs.Trace.{counters-are, service-is, ramp-is, recovery-is, held-is, next-is, status-is, vars-is, shown-is}
 use Rattle.laws.proofs.Demand2.{accepted-step, refused-step, fresh-is, run-is}
 use Rattle.explain.specs.Explained.{statusRule, regionCause, historyStatusRule, historyWattsRule, recordStatusRule, recordWattsRule, explainedStep}
 use Rattle.explain.specs.Explains.{boardAlone, explainedBy, explainedTo, explainedHistory, ShowsRules}
@@ -54,7 +54,7 @@ module _ (e : Equipment) (st : Settings) where
   watts-rule-is : (h : History) (x : Slice) → recordWattsRule e st x (recordOf e st (x ∷ h)) ≡ historyWattsRule e st (x ∷ h)
   unfolding recordWattsRule historyWattsRule historyShare
   watts-rule-is h x =
-      rw (status-is e st (x ∷ h), ramp-is e st (x ∷ h), recovery-is e st (x ∷ h), vars-is e st (x ∷ h)) refl
+      rw (status-is e st (x ∷ h), ramp-is e st (x ∷ h), recovery-is e st (x ∷ h), held-is e st (x ∷ h), vars-is e st (x ∷ h)) refl
 
   module _ (ok : settingsAccepted st ≡ true) where
     fresh-says : explainedBy e .says ≡ explainedHistory e st []

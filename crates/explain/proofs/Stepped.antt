@@ -5,15 +5,18 @@ use mathlib.Core.Bool.{Bool, true, false, cond, _&&_}
 use mathlib.Core.List.{List, [], _∷_, _++_}
 use Prim.Native.Nat.{ℕ, zero, _≤_}
 use native.Mathlib.Omega.{arith}
+use lib.Dec.{eqb}
 use lib.IntN.{natAbs, pos}
 use lib.ListN.{length, getD, length-append}
 use Rattle.basics.proofs.Refusals.{number-bounds}
 use Rattle.basics.proofs.Bools.{both}
 use Rattle.rules.specs.Settings.{settingsAccepted}
-use Rattle.rules.specs.Samples.{Slice, Equipment, permitted, available, mean, sampleAccepted}
+use Rattle.rules.specs.Samples.{Slice, Equipment, frequency, permitted, mean, sampleAccepted}
 use Rattle.rules.specs.Counters.{counted, full, tripRules, readyRule, rules}
 use Rattle.rules.specs.Curves.{curve}
-use Rattle.rules.specs.Service.{exports, inService, leftBy, shareOf, varsOf, wattsOf, powerLimits}
+use Rattle.rules.specs.Regions.{regionOf}
+use Rattle.rules.specs.Droop.{sideOf}
+use Rattle.rules.specs.Service.{exports, inService, shareOf, varsOf, wattsOf, powerLimits}
 use Rattle.rules.specs.Reports.{packedAfter, reportOf}
 use Rattle.rules.specs.Refusals.{answerNumber}
 use Rattle.rules.specs.Records.{each, capped, readAs, settled, ruled, next, shown, stepOf}
@@ -23,6 +26,7 @@ use Rattle.rules.specs.declared.Report.{Report}
 use Rattle.rules.specs.declared.Answer.{Answer}
 use Rattle.rules.specs.declared.Stepped.{Stepped}
 use Rattle.claims.specs.Calls.{freshReport, lastReport}
+use Rattle.laws.proofs.Events.{giving-side}
 use Rattle.laws.proofs.Curves.{var-rises}
 use Rattle.laws.proofs.Demand2.{accepted-step, refused-step}
 use Rattle.power.proofs.CurveLaws.{curve-small}
@@ -35,8 +39,13 @@ use Rattle.explain.specs.declared.ExplainedStep.{ExplainedStep}
 
 -- ---- what a step leaves
 
+settled-side : (e : Equipment) (s : Settings) (x : Slice) (counters : List ℕ) (on : Bool) (ramp recovery held : ℕ)
+    → exports (settled e s x counters on ramp recovery held .status) ≡ true → settled e s x counters on ramp recovery held .side ≡ sideOf (frequency x)
+unfolding settled
+settled-side e s x counters on ramp recovery held = giving-side on (regionOf e x) (eqb ramp (s .ramp)) (frequency x)
+
 module _ (e : Equipment) (s : Settings) (x : Slice) (b : Board) where
-  pub next-watts : next e s x b .watts ≡ wattsOf e s x (next e s x b .status) (shareOf s (next e s x b .ramp)) (next e s x b .recovery)
+  pub next-watts : next e s x b .watts ≡ wattsOf e s x (next e s x b .status) (shareOf s (next e s x b .ramp)) (next e s x b .recovery) (next e s x b .held)
   unfolding next ruled settled
   next-watts = refl
 
@@ -44,14 +53,12 @@ module _ (e : Equipment) (s : Settings) (x : Slice) (b : Board) where
   unfolding next ruled settled
   next-vars = refl
 
--- watts are not above the available power, and vars not above the rating
-pub watts-low : (e : Equipment) (s : Settings) (x : Slice) (status share recovery : ℕ) → wattsOf e s x status share recovery ≤ available x
-unfolding wattsOf
-watts-low e s x status share recovery = by (exports status)
-  where
-    by : (on : Bool) → cond on (leftBy (powerLimits e s x share recovery (varsOf e s x status))) 0 ≤ available x
-    by true = omega arith
-    by false = omega arith
+  -- where power is given, the board is in service, and its side is the frequency's
+  next-side : exports (next e s x b .status) ≡ true → next e s x b .side ≡ sideOf (frequency x)
+  unfolding next ruled
+  next-side = settled-side e s x _ _ _ _ _
+
+-- vars are not above the rating
 
 pub vars-small : (e : Equipment) (s : Settings) (x : Slice) (status : ℕ) → settingsAccepted s ≡ true → natAbs (varsOf e s x status) ≤ 10000
 unfolding varsOf
@@ -102,19 +109,24 @@ module _ (e : Equipment) (s : Settings) (x : Slice) (b : Board) (t : Stepped) (q
       report-is = ap (lastReport freshReport) (sym told ∙ ap (λ (u : Stepped). u .answer) stepped)
 
       -- its powers are those of spec 7
-      pub watts-are : p .watts ≡ wattsOf e s x (p .status) (p .share) (p .recovery)
+      pub watts-are : p .watts ≡ wattsOf e s x (p .status) (p .share) (p .recovery) (p .held)
       unfolding next ruled settled shown reportOf
-      watts-are = subst (λ (r : Report). r .watts ≡ wattsOf e s x (r .status) (r .share) (r .recovery)) (sym report-is) refl
+      watts-are = subst (λ (r : Report). r .watts ≡ wattsOf e s x (r .status) (r .share) (r .recovery) (r .held)) (sym report-is) refl
 
       pub vars-are : p .vars ≡ varsOf e s x (p .status)
       unfolding next ruled settled shown reportOf
       vars-are = subst (λ (r : Report). r .vars ≡ varsOf e s x (r .status)) (sym report-is) refl
 
-      pub watts-rule-is : (rule : WattsRule) → rule ≡ wattsRule (p .status) (powerLimits e s x (p .share) (p .recovery) (p .vars))
+      -- and where power is given its side is the frequency's
+      pub side-is : exports (p .status) ≡ true → p .side ≡ sideOf (frequency x)
+      unfolding shown reportOf
+      side-is = subst (λ (r : Report). exports (r .status) ≡ true → r .side ≡ sideOf (frequency x)) (sym report-is) (next-side e s x b)
+
+      pub watts-rule-is : (rule : WattsRule) → rule ≡ wattsRule (p .status) (powerLimits e s x (p .share) (p .recovery) (p .held) (p .vars))
           → rule ≡ recordWattsRule e s x (t .board)
       unfolding recordWattsRule shown reportOf
       watts-rule-is rule k =
-          k ∙ ap (λ (r : Report). wattsRule (r .status) (powerLimits e s x (r .share) (r .recovery) (r .vars))) report-is
+          k ∙ ap (λ (r : Report). wattsRule (r .status) (powerLimits e s x (r .share) (r .recovery) (r .held) (r .vars))) report-is
           ∙ ap (recordWattsRule e s x) (sym left)
 
       -- its bits are those of the counters

@@ -7,18 +7,20 @@ use Prim.Native.Nat.{ℕ, zero, suc, _≤_, _<_}
 use native.Mathlib.Nat.{not-suc-le-zero, le-of-suc-le-suc, lt-of-not-le}
 use native.Mathlib.Decide.{decLe}
 use native.Mathlib.Omega.{arith}
-use lib.Dec.{eqb}
+use lib.Dec.{ltb, eqb}
 use lib.ListN.{length, getD}
 use borrow.Author.Tests.{eqb-true, eqb-false}
-use Rattle.rules.specs.Samples.{Slice, Equipment}
-use Rattle.rules.specs.Service.{PowerLimit, availablePower, operatorsLimit, rampShare, voltWatt, nameplateRating, cessationRecovery}
+use Rattle.rules.specs.Samples.{Slice, Equipment, frequency}
+use Rattle.rules.specs.Droop.{deadbandHigh, deadbandLow, sideOf, drooped}
+use Rattle.rules.specs.Service.{PowerLimit, availablePower, operatorsLimit, rampShare, voltWatt, nameplateRating, cessationRecovery, frequencyDroop}
 use Rattle.rules.specs.Service.{Limited, powerLimits, leftBy, exports, varsOf, wattsOf}
 use Rattle.rules.specs.declared.Settings.{Settings}
 use Rattle.rules.specs.declared.Report.{Report}
 use Rattle.explain.specs.Numbers.{wattsRuleNumber}
 use Rattle.explain.specs.Explained.{limitNamed, firstLeaving, wattsRule}
-use Rattle.explain.specs.Explains.{NamedLimit, ruleLeaves, FirstOf, WattsNamed}
+use Rattle.explain.specs.Explains.{NamedLimit, ruleLeaves, namedLimits, FirstOf, WattsNamed}
 use Rattle.explain.specs.declared.WattsRule.{WattsRule}
+use Rattle.laws.proofs.Events.{some-limits}
 use Rattle.explain.proofs.Binding.{stops, passes, others-leave}
 
 -- the limits of a list, each by its rule
@@ -76,6 +78,7 @@ limit-number rampShare = omega arith
 limit-number voltWatt = omega arith
 limit-number nameplateRating = omega arith
 limit-number cessationRecovery = omega arith
+limit-number frequencyDroop = omega arith
 
 named-number : (ls : List Limited) (index : ℕ) → index < length (map byRule ls)
     → 1 < wattsRuleNumber (getD (map (λ (l : NamedLimit). l .rule) (map byRule ls)) index WattsRule.Status)
@@ -89,16 +92,17 @@ no-status ls watts rule index f e = omega (arith, named-number ls index (f .insi
 -- ---- beside a report whose powers are those of spec 7
 
 module _ (e : Equipment) (st : Settings) (x : Slice) (r : Report)
-    (powers : r .watts ≡ wattsOf e st x (r .status) (r .share) (r .recovery)) (vars : r .vars ≡ varsOf e st x (r .status)) where
+    (powers : r .watts ≡ wattsOf e st x (r .status) (r .share) (r .recovery) (r .held)) (vars : r .vars ≡ varsOf e st x (r .status))
+    (side : exports (r .status) ≡ true → r .side ≡ sideOf (frequency x)) where
   abbrev limits : List Limited
-  limits = powerLimits e st x (r .share) (r .recovery) (r .vars)
+  limits = powerLimits e st x (r .share) (r .recovery) (r .held) (r .vars)
 
   left : exports (r .status) ≡ true → r .watts ≡ leftBy limits
   unfolding wattsOf
   left on = rw vars (powers ∙ rw on refl)
 
   limit-named : exports (r .status) ≡ true → (index : ℕ) × FirstOf (map byRule limits) (r .watts) (wattsRule (r .status) limits) index
-  limit-named on = rw (on, ← left on) (first-in (r .watts) limits (omega arith) (left on))
+  limit-named on = rw (on, ← left on) (first-in (r .watts) limits (some-limits e st x (r .share) (r .recovery) (r .held) (r .vars)) (left on))
 
   gives-none : wattsRule (r .status) limits ≡ WattsRule.Status → exports (r .status) ≡ false
   gives-none k = by (exports (r .status)) refl
@@ -110,8 +114,22 @@ module _ (e : Equipment) (st : Settings) (x : Slice) (r : Report)
   status-named : exports (r .status) ≡ false → wattsRule (r .status) limits ≡ WattsRule.Status
   status-named off = rw off refl
 
+  -- by what the report shows they are the same
+  same-limits : exports (r .status) ≡ true → namedLimits e st x r ≡ map byRule limits
+  unfolding sideOf drooped
+  same-limits on = by (ltb deadbandHigh (frequency x)) refl (ltb (frequency x) deadbandLow) refl
+    where
+      by : (a : Bool) → ltb deadbandHigh (frequency x) ≡ a → (b : Bool) → ltb (frequency x) deadbandLow ≡ b → namedLimits e st x r ≡ map byRule limits
+      by true p b q = rw (side on, p) refl
+      by false p true q = rw (side on, p, q) refl
+      by false p false q = rw (side on, p, q) refl
+
   pub watts-named : WattsNamed e st x r (wattsRule (r .status) limits)
-  watts-named = record { status = (gives-none, status-named); limit = limit-named }
+  watts-named =
+      record {
+        status = (gives-none, status-named);
+        limit = λ on. rw (same-limits on) (limit-named on);
+      }
 
 -- ---- there is no choice in it
 

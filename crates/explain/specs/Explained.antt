@@ -4,13 +4,15 @@ use mathlib.Core.Bool.{Bool, true, false, cond}
 use mathlib.Core.List.{List, [], _∷_, map}
 use Prim.Native.Nat.{ℕ, suc}
 use lib.Dec.{eqb}
+use lib.IntN.{ℤ}
 use Rattle.rules.specs.Samples.{Slice, Equipment, permitted, lowest, highest}
 use Rattle.rules.specs.Counters.{full, tripRules}
+use Rattle.rules.specs.Curves.{nameplate}
 use Rattle.rules.specs.Regions.{rank, regionOf}
-use Rattle.rules.specs.Service.{PowerLimit, availablePower, operatorsLimit, rampShare, voltWatt, nameplateRating, cessationRecovery}
-use Rattle.rules.specs.Service.{Limited, powerLimits, leftBy, inService, exports, shareOf}
+use Rattle.rules.specs.Service.{PowerLimit, availablePower, operatorsLimit, rampShare, voltWatt, nameplateRating, cessationRecovery, frequencyDroop}
+use Rattle.rules.specs.Service.{Limited, leaves, wattCurve, recoveryLimit, powerLimits, leftBy, inService, exports, shareOf}
 use Rattle.rules.specs.Records.{each, stepOf}
-use Rattle.rules.specs.History.{History, complete, serving, historyStatus, historyShare, historyRecovery, historyVars}
+use Rattle.rules.specs.History.{History, complete, serving, historyStatus, historyShare, historyRecovery, historyHeld, historyVars}
 use Rattle.rules.specs.declared.Settings.{Settings}
 use Rattle.rules.specs.declared.Board.{Board}
 use Rattle.rules.specs.declared.Region.{Region}
@@ -58,13 +60,19 @@ limitNamed rampShare = WattsRule.RampShare
 limitNamed voltWatt = WattsRule.VoltWatt
 limitNamed nameplateRating = WattsRule.NameplateRating
 limitNamed cessationRecovery = WattsRule.CessationRecovery
+limitNamed frequencyDroop = WattsRule.FrequencyDroop
 
 -- the first limit of a list that leaves so many watts; there is one where the list is not empty and they are the least that it leaves
 abbrev pub firstLeaving : ℕ → List Limited → WattsRule
 firstLeaving watts [] = WattsRule.Status
 firstLeaving watts (l ∷ limits) = cond (eqb (l .watts) watts) (limitNamed (l .limit)) (firstLeaving watts limits)
 
--- spec 8.8: the rule of a report, from its status and the limits of spec 7.5
+-- spec 7.5, 7.8: the limits that stand in an event and outside it, after the first ones
+abbrev pub lastLimits : Equipment → Settings → Slice → ℕ → ℤ → List Limited
+lastLimits e st x recovery vars =
+    leaves voltWatt (wattCurve e st x) ∷ leaves nameplateRating (nameplate vars) ∷ leaves cessationRecovery (recoveryLimit recovery) ∷ []
+
+-- spec 8.8: the rule of a report, from its status and the limits of spec 7.5 and 7.8
 abbrev pub wattsRule : ℕ → List Limited → WattsRule
 wattsRule status limits = cond (exports status) (firstLeaving (leftBy limits) limits) WattsRule.Status
 
@@ -75,9 +83,10 @@ historyStatusRule e st [] = StatusRule.WaitNotFull
 historyStatusRule e st (x ∷ h) =
     statusRule (serving e st h) (serving e st (x ∷ h)) (permitted x) (map (complete (x ∷ h)) (tripRules e st)) (regionCause e x)
 
--- the six limits at the newest sample
+-- the limits at the newest sample
 abbrev pub historyLimits : Equipment → Settings → Slice → History → List Limited
-historyLimits e st x h = powerLimits e st x (historyShare e st (x ∷ h)) (historyRecovery e st (x ∷ h)) (historyVars e st (x ∷ h))
+historyLimits e st x h =
+    powerLimits e st x (historyShare e st (x ∷ h)) (historyRecovery e st (x ∷ h)) (historyHeld e st (x ∷ h)) (historyVars e st (x ∷ h))
 
 unfoldable pub historyWattsRule : Equipment → Settings → History → WattsRule
 historyWattsRule e st [] = WattsRule.Status
@@ -91,7 +100,8 @@ recordStatusRule e st x before after =
     statusRule (inService (before .status)) (inService (after .status)) (permitted x) (each full (tripRules e st) (after .counters)) (regionCause e x)
 
 unfoldable pub recordWattsRule : Equipment → Settings → Slice → Board → WattsRule
-recordWattsRule e st x after = wattsRule (after .status) (powerLimits e st x (shareOf st (after .ramp)) (after .recovery) (after .vars))
+recordWattsRule e st x after =
+    wattsRule (after .status) (powerLimits e st x (shareOf st (after .ramp)) (after .recovery) (after .held) (after .vars))
 
 -- spec 8.5: the rules stand beside a report, and a refused call has none
 abbrev pub withRules : StatusRule → WattsRule → Answer → ExplainedAnswer

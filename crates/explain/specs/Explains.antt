@@ -1,10 +1,11 @@
 -- Spec 8.5 to 8.8, 13.11: what is claimed of any program that could be called a board which says its rules, and of any rules of histories.
 -- Assumes nothing.
 use mathlib.Core.Path.{_≡_}
-use mathlib.Core.Bool.{Bool, true, false}
+use mathlib.Core.Bool.{Bool, true, false, cond}
 use mathlib.Core.Logic.{_↔_}
 use mathlib.Core.List.{List, [], _∷_, _++_, map}
-use Prim.Native.Nat.{ℕ, suc, _-_, _*_, _/_, _≤_, _<_}
+use Prim.Native.Nat.{ℕ, suc, _+_, _-_, _*_, _/_, _≤_, _<_, min}
+use lib.Dec.{eqb}
 use lib.IntN.{natAbs}
 use lib.ListN.{length, getD}
 use Rattle.rules.specs.Settings.{limitAt}
@@ -132,16 +133,29 @@ pub record NamedLimit : Type 0 where
 abbrev pub ruleLeaves : WattsRule → ℕ → NamedLimit
 ruleLeaves rule watts = record { rule = rule; watts = watts }
 
--- spec 7.5, 8.8: the six of a sample in their order, by what its report shows
-abbrev pub sixLimits : Equipment → Settings → Slice → Report → List NamedLimit
-sixLimits e st x r =
+-- spec 7.5, 8.8: the first three limits of a sample outside an event, by what its report shows
+abbrev pub limitsOutside : Slice → Report → List NamedLimit
+limitsOutside x r =
     ruleLeaves WattsRule.AvailablePower (available x)
     ∷ ruleLeaves WattsRule.OperatorsLimit (operatorLimit x)
     ∷ ruleLeaves WattsRule.RampShare (r .share)
-    ∷ ruleLeaves WattsRule.VoltWatt (natAbs (curve (st .watt) (mean e x)))
+    ∷ []
+
+-- spec 7.8, 8.8: the one in an event: on the high side (1) less than the held power, on the low side more, and never above the available power
+abbrev pub limitsInside : Slice → Report → List NamedLimit
+limitsInside x r =
+    let less = r .held - (frequency x - 60036) * 10 / 3 in
+    let more = r .held + (59964 - frequency x) * 10 / 3 in
+    ruleLeaves WattsRule.FrequencyDroop (min (cond (eqb (r .side) 1) less more) (available x)) ∷ []
+
+-- spec 7.5, 7.8, 8.8: all of them in their order; the report's side is 0 outside an event
+abbrev pub namedLimits : Equipment → Settings → Slice → Report → List NamedLimit
+namedLimits e st x r =
+    cond (eqb (r .side) 0) (limitsOutside x r) (limitsInside x r)
+    ++ (ruleLeaves WattsRule.VoltWatt (natAbs (curve (st .watt) (mean e x)))
     ∷ ruleLeaves WattsRule.NameplateRating (nameplate (r .vars))
     ∷ ruleLeaves WattsRule.CessationRecovery (10000 * r .recovery / 40)
-    ∷ []
+    ∷ [])
 
 -- the rule is that of the limit at this index of the list, which leaves so many watts, and each before it leaves more
 pub record FirstOf (limits : List NamedLimit) (watts : ℕ) (rule : WattsRule) (index : ℕ) : Type 0 where
@@ -155,7 +169,7 @@ pub record WattsNamed (e : Equipment) (st : Settings) (x : Slice) (r : Report) (
   -- the status, exactly where that gives no power
   pub status : (rule ≡ WattsRule.Status) ↔ (exports (r .status) ≡ false)
   -- otherwise the first limit that leaves what the watts are
-  pub limit : exports (r .status) ≡ true → (index : ℕ) × FirstOf (sixLimits e st x r) (r .watts) rule index
+  pub limit : exports (r .status) ≡ true → (index : ℕ) × FirstOf (namedLimits e st x r) (r .watts) rule index
 
 -- of any rules of histories; ours are `historyWattsRule`
 pub record NamesWattsRule (e : Equipment) (st : Settings) (rule : History → WattsRule) : Type 0 where

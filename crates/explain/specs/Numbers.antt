@@ -35,6 +35,7 @@ wattsRuleNumber WattsRule.RampShare = 4
 wattsRuleNumber WattsRule.VoltWatt = 5
 wattsRuleNumber WattsRule.NameplateRating = 6
 wattsRuleNumber WattsRule.CessationRecovery = 7
+wattsRuleNumber WattsRule.FrequencyDroop = 8
 
 -- spec 11.1: the number that an answer gives, 0 where nothing is refused
 abbrev pub explainedNumber : ExplainedAnswer → ℕ

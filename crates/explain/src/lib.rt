@@ -32,6 +32,7 @@ pub enum WattsRule {
     VoltWatt,
     NameplateRating,
     CessationRecovery,
+    FrequencyDroop,
 }
 
 // What a step answers: a report with its two rules, or why there is none.
@@ -99,5 +100,6 @@ pub fn watts_rule_number(rule: WattsRule) -> u8
         WattsRule::VoltWatt => 5,
         WattsRule::NameplateRating => 6,
         WattsRule::CessationRecovery => 7,
+        WattsRule::FrequencyDroop => 8,
     }
 }

@@ -1,4 +1,4 @@
-// Spec 9: the image of a board record, 46 bytes, high byte first.
+// Spec 9: the image of a board record, 49 bytes, high byte first.
 ghost use mathlib.Core.Path.{_≡_};
 ghost use mathlib.Core.List.{[], _∷_, map};
 ghost use Prim.Native.Nat.{_+_, _≤_};
@@ -67,6 +67,16 @@ fn put_powers(out: &mut [u8], at: usize, watts: u16, vars: i16) -> usize
     put_bytes(out, place, 2, reactive)
 }
 
+// Recovery count and side, in one byte each, and the held power, in two.
+fn put_event(out: &mut [u8], at: usize, recovery: u8, side: u8, held: u16) -> usize
+    requires { ⌜ at + 4 ≤ length (now out) ⌝ }
+    ensures { λ r. ⌜ Wrote (now (out .entry)) at (now (out .exit)) r (fieldBytes (field 1 recovery ∷ field 1 side ∷ field 2 held ∷ [])) ⌝ }
+{
+    let a = put_bytes(out, at, 1, recovery as u32);
+    let b = put_bytes(out, a, 1, side as u32);
+    put_bytes(out, b, 2, held as u32)
+}
+
 // The image at the front of a buffer that holds it: each field after the one before it.
 fn put_image(out: &mut [u8], b: Board)
     requires { ⌜ imageLength ≤ length (now out) ⌝ }
@@ -77,10 +87,10 @@ fn put_image(out: &mut [u8], b: Board)
     at = put_counters(out, at, counters);
     at = put_bytes(out, at, 4, b.ramp);
     at = put_powers(out, at, b.watts, b.vars);
-    put_bytes(out, at, 1, b.recovery as u32);
+    put_event(out, at, b.recovery, b.side, b.held);
 }
 
-// The image at the front of a lent buffer; the bytes after it are untouched. A buffer under 46 bytes keeps every byte.
+// The image at the front of a lent buffer; the bytes after it are untouched. A buffer under 49 bytes keeps every byte.
 pub fn save(b: Board, out: &mut [u8]) -> Saved
     ensures { λ r. ⌜ (r ≡ saveCheck (now (out .entry))) × (now (out .exit) ≡ savedInto b (now (out .entry))) ⌝ }
     ensures { λ r. ⌜ savedNumber r ≡ first (cause 9 (ltb (length (now (out .entry))) imageLength) ∷ []) ⌝ }

@@ -75,14 +75,14 @@ module _ (e f : Equipment) (a : Alike e f) (x : Slice) (r : SampleRight x) where
     unfolding varsOf
     vars-alike status = rw mean-alike
 
-    watts-alike : (status share recovery : ℕ) → wattsOf e st x status share recovery ≡ wattsOf f st x status share recovery
+    watts-alike : (status share recovery held : ℕ) → wattsOf e st x status share recovery held ≡ wattsOf f st x status share recovery held
     unfolding wattsOf
-    watts-alike status share recovery = rw (mean-alike, vars-alike status)
+    watts-alike status share recovery held = rw (mean-alike, vars-alike status)
 
-    settled-alike : (counters : List ℕ) (on : Bool) (ramp recovery : ℕ)
-        → settled e st x counters on ramp recovery ≡ settled f st x counters on ramp recovery
+    settled-alike : (counters : List ℕ) (on : Bool) (ramp recovery held : ℕ)
+        → settled e st x counters on ramp recovery held ≡ settled f st x counters on ramp recovery held
     unfolding settled
-    settled-alike counters on ramp recovery = rw (region-alike, watts-alike, vars-alike)
+    settled-alike counters on ramp recovery held = rw (region-alike, watts-alike, vars-alike)
 
     read-alike : (b : Board) → readAs e st b ≡ readAs f st b
     unfolding readAs

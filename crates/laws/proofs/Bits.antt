@@ -132,7 +132,7 @@ module _ (e : Equipment) (st : Settings) (h g : History) where
     λ same.
         same-items (ap (λ (r : Report). r .status) same)
         (packed-inj _ _ (nine e st h ∙ sym (nine e st g)) (ap (λ (r : Report). r .bits) same))
-        (ap (λ (r : Report). r .share) same) (ap (λ (r : Report). r .recovery) same)
+        (ap (λ (r : Report). r .share) same) (ap (λ (r : Report). r .recovery) same) (ap (λ (r : Report). r .side) same) (ap (λ (r : Report). r .held) same)
         (ap (λ (r : Report). r .watts) same) (ap (λ (r : Report). r .vars) same),
     ap reportOf,
   )

@@ -14,10 +14,11 @@ use Rattle.rules.specs.Settings.{settingsCheck, settingsPassed, settingsAccepte
 use Rattle.rules.specs.Samples.{Slice, Equipment, sampleCheck, sampleAccepted}
 use Rattle.rules.specs.Samples as samples
 use Rattle.rules.specs.Counters.{Rule, Kind, kinds, limitRules, readyRule}
+use Rattle.rules.specs.Droop.{noSide}
 use Rattle.rules.specs.Service.{inService, recoveryTop}
 use Rattle.rules.specs.Reports.{Items, packedAfter, reportOf}
 use Rattle.rules.specs.Records.{fresh, next, shown, turnedAway, onSample, onSettings, stepOf}
-use Rattle.rules.specs.History.{History, streak, complete, serving, climbed, historyStatus, historyShare, historyWatts, historyVars, historyReport}
+use Rattle.rules.specs.History.{History, streak, complete, serving, climbed, historyStatus, historyShare, historySide, wattsHolding, historyHeld, historyWatts, historyVars, historyReport}
 use Rattle.rules.specs.History.{sinceCessation, historyRecovery}
 use Rattle.rules.specs.declared.Settings.{Settings}
 use Rattle.rules.specs.declared.Board.{Board}
@@ -178,11 +179,11 @@ module _ (e : Equipment) (st : Settings) where
 
   -- the fresh board's report: tripped, with all bits and numbers 0, but for a recovery of 40
   pub fresh-by : LimitsIn st 0 kinds → reportOf (historyReport e st []) ≡ freshReport
-  unfolding reportOf historyReport historyStatus historyShare historyRecovery sinceCessation historyWatts historyVars climbed
+  unfolding reportOf historyReport historyStatus historyShare historyRecovery sinceCessation historySide historyHeld historyWatts wattsHolding historyVars climbed
   fresh-by limits = ap₂ shows-only (no-bits e st 0 kinds limits) no-share
     where
       shows-only : List Bool → ℕ → Report
-      shows-only bits share = record { status = 0; bits = packedAfter 0 bits; share = share; recovery = recoveryTop; watts = 0; vars = pos 0 }
+      shows-only bits share = record { status = 0; bits = packedAfter 0 bits; share = share; recovery = recoveryTop; side = noSide; held = 0; watts = 0; vars = pos 0 }
 
       no-share : 10000 * min (st .ramp) 0 / st .ramp ≡ 0
       no-share = rw (min-zero (st .ramp), zero-div (st .ramp))

@@ -17,10 +17,10 @@ use Rattle.rules.specs.Samples.{Slice, Equipment, mean, sampleAccepted}
 use Rattle.rules.specs.Counters.{Rule, rules}
 use Rattle.rules.specs.Curves.{curve}
 use Rattle.rules.specs.Regions.{regionOf}
-use Rattle.rules.specs.Service.{statusOf, inService, exports, varsOf, Limited, powerLimits, least, wattsOf}
+use Rattle.rules.specs.Service.{statusOf, inService, exports, varsOf}
 use Rattle.rules.specs.Reports.{Items}
 use Rattle.rules.specs.Records.{next, shown}
-use Rattle.rules.specs.History.{History, followedBy, serving, historyStatus, historyShare, historyRecovery, historyWatts, historyVars, historyReport}
+use Rattle.rules.specs.History.{History, followedBy, serving, historyStatus, historyVars, historyReport}
 use Rattle.rules.specs.Images.{field, imageFields, image, imageLength, savedInto}
 use Rattle.rules.specs.declared.Settings.{Settings}
 use Rattle.rules.specs.declared.Board.{Board}
@@ -33,10 +33,10 @@ use Rattle.claims.specs.TwoHistories.{AllAccepted, Agree, imageAfter, TwoHistor
 use Rattle.power.proofs.CurveLaws.{curve-small}
 use Rattle.power.proofs.PointLists.{powers-small}
 use Rattle.basics.proofs.Bools.{both}
-use Rattle.laws.proofs.Accepted.{sample-right, sheet-rows}
+use Rattle.laws.proofs.Accepted.{sheet-rows}
 use Rattle.laws.proofs.Curves.{fits16, var-rises}
-use Rattle.laws.proofs.Least.{least-below}
-use Rattle.laws.proofs.Trace.{counters-are, nine-counters, service-is, ramp-is, recovery-is, recovery-top, status-is, watts-is, vars-is, next-is, shown-is}
+use Rattle.laws.proofs.Trace.{counters-are, nine-counters, service-is, ramp-is, recovery-is, side-is, held-is, status-is, watts-is, vars-is, next-is, shown-is}
+use Rattle.laws.proofs.Events.{recovery-top, side-below, watts-top, held-top}
 use Rattle.laws.proofs.Demand2.{run-is}
 use Rattle.laws.proofs.Probes.{AllTellable, all-rules, rules-tellable}
 use Rattle.laws.proofs.Ramps.{ramps-equal}
@@ -65,18 +65,6 @@ saved-image b nine buffer room =
     rw (le-leb imageLength (length buffer) room) (take-at (image b) (drop imageLength buffer) imageLength (image-length b nine))
 
 module _ (e : Equipment) (st : Settings) where
-  pub watts-below : (h : History) → AllAccepted h → historyWatts e st h ≤ 10000
-  unfolding historyWatts wattsOf
-  watts-below [] a = omega arith
-  watts-below (x ∷ h) a =
-      let status = historyStatus e st (x ∷ h) in
-      let limits = powerLimits e st x (historyShare e st (x ∷ h)) (historyRecovery e st (x ∷ h)) (varsOf e st x status) in
-      by (exports status) (map (λ (l : Limited). l .watts) limits) (omega arith) (sample-right x (a .0) .available-top)
-    where
-      by : (b : Bool) (ns : List ℕ) → 0 < length ns → getD ns 0 0 ≤ 10000 → cond b (least ns) 0 ≤ 10000
-      by true ns some low = omega (arith, least-below ns 0 some)
-      by false ns some low = omega arith
-
   pub status-top : (h : History) → historyStatus e st h ≤ 5
   unfolding historyStatus
   status-top [] = lit≤ tt
@@ -117,19 +105,21 @@ module _ (e : Equipment) (sound : Sound e) (st : Settings) (ok : settingsAccepte
       by true = fits16 (curve (st .var) (mean e x)) (curve-small 10000 (st .var) (mean e x) (powers-small (st .var) (var-rises st ok)))
       by false = fits16 (pos 0) (omega arith)
 
-  record-fits : (h : History) → AllAccepted h → FieldsFit (recordOf e st h)
+  record-fits : (h : History) → FieldsFit (recordOf e st h)
   unfolding imageFields rows
-  record-fits h a =
+  record-fits h =
       let counts = subst (λ (ns : List ℕ). AllFit (map (field 4) ns)) (sym (counters-are e st h)) (counts-fit h (rules e st) (rules-tellable e sound st ok)) in
       let vars = subst (SFits w16) (sym (vars-is e st h)) (vars-fit h) in
       let status : recordOf e st h .status < 256 ^ 1 = omega (arith, status-is e st h, status-top e st h) in
       let ramp : recordOf e st h .ramp < 256 ^ 4 = omega (arith, ramp-is e st h, sheet-rows st ok .wait) in
-      let watts : recordOf e st h .watts < 256 ^ 2 = omega (arith, watts-is e st h, watts-below e st h a) in
+      let watts : recordOf e st h .watts < 256 ^ 2 = omega (arith, watts-is e st h, watts-top e st h) in
       let recovery : recordOf e st h .recovery < 256 ^ 1 = omega (arith, recovery-is e st h, recovery-top e st h) in
+      let side : recordOf e st h .side < 256 ^ 1 = omega (arith, side-is e st h, side-below e st h) in
+      let held : recordOf e st h .held < 256 ^ 2 = omega (arith, held-is e st h, held-top e st h) in
       record {
         nine = nine-counters e st h;
         signed = vars;
-        rows = (status, each-fit 4 (recordOf e st h .counters) counts _ (ramp, (watts, (complement-below _ vars, (recovery, tt)))));
+        rows = (status, each-fit 4 (recordOf e st h .counters) counts _ (ramp, (watts, (complement-below _ vars, (recovery, (side, (held, tt)))))));
       }
 
   -- ---- equal reports, now and after every common run: equal records
@@ -148,6 +138,8 @@ module _ (e : Equipment) (sound : Sound e) (st : Settings) (ok : settingsAccepte
       (watts-is e st h ∙ ap (λ (r : Items). r .watts) now ∙ sym (watts-is e st g))
       (vars-is e st h ∙ ap (λ (r : Items). r .vars) now ∙ sym (vars-is e st g))
       (recovery-is e st h ∙ ap (λ (r : Items). r .recovery) now ∙ sym (recovery-is e st g))
+      (side-is e st h ∙ ap (λ (r : Items). r .side) now ∙ sym (side-is e st g))
+      (held-is e st h ∙ ap (λ (r : Items). r .held) now ∙ sym (held-is e st g))
 
   -- ---- the image saved after a list of calls
 
@@ -165,7 +157,7 @@ module _ (e : Equipment) (sound : Sound e) (st : Settings) (ok : settingsAccepte
       let accepted-q = samples-accepted qs [] tt in
       let p-is = saved-is ps up a ra in
       let q-is = saved-is qs uq b rb in
-      let told = image-inj _ _ (record-fits hp accepted-p) (record-fits hq accepted-q) in (
+      let told = image-inj _ _ (record-fits hp) (record-fits hq) in (
         (λ p. records-agree e st hp hq (told (sym p-is ∙ p ∙ q-is))),
         (λ f. p-is ∙ ap image (records-equal hp hq accepted-p accepted-q f) ∙ sym q-is),
       )

@@ -1,4 +1,4 @@
--- The image (spec 9): it has 46 bytes, and two records whose fields fit are told apart by it.
+-- The image (spec 9): it has 49 bytes, and two records whose fields fit are told apart by it.
 -- Assumes nothing.
 use mathlib.Core.Path.{_≡_, refl, sym, ap, ap₂, _∙_}
 use mathlib.Core.List.{List, [], _∷_, _++_, append-assoc, head-eq-of-cons-eq, tail-eq-of-cons-eq, map}
@@ -133,13 +133,13 @@ complement-inj (negsuc n) (negsuc m) f g e = ap negsuc (omega (arith, f .sfits, 
 
 -- a record is its fields
 pub same-fields : {b c : Board} → b .status ≡ c .status → b .counters ≡ c .counters → b .ramp ≡ c .ramp → b .watts ≡ c .watts → b .vars ≡ c .vars
-    → b .recovery ≡ c .recovery → b ≡ c
-same-fields e₁ e₂ e₃ e₄ e₅ e₆ = made e₁ e₂ e₃ e₄ e₅ e₆
+    → b .recovery ≡ c .recovery → b .side ≡ c .side → b .held ≡ c .held → b ≡ c
+same-fields e₁ e₂ e₃ e₄ e₅ e₆ e₇ e₈ = made e₁ e₂ e₃ e₄ e₅ e₆ e₇ e₈
   where
-    made : {s s′ : ℕ} {l l′ : List ℕ} {r r′ w w′ n n′ : ℕ} {v v′ : ℤ} → s ≡ s′ → l ≡ l′ → r ≡ r′ → w ≡ w′ → v ≡ v′ → n ≡ n′
-        → _≡_ {A = Board} (record { status = s; counters = l; ramp = r; watts = w; vars = v; recovery = n })
-        (record { status = s′; counters = l′; ramp = r′; watts = w′; vars = v′; recovery = n′ })
-    made e₁ e₂ e₃ e₄ e₅ e₆ = rw (e₁, e₂, e₃, e₄, e₅, e₆)
+    made : {s s′ : ℕ} {l l′ : List ℕ} {r r′ w w′ n n′ d d′ p p′ : ℕ} {v v′ : ℤ} → s ≡ s′ → l ≡ l′ → r ≡ r′ → w ≡ w′ → v ≡ v′ → n ≡ n′ → d ≡ d′ → p ≡ p′
+        → _≡_ {A = Board} (record { status = s; counters = l; ramp = r; watts = w; vars = v; recovery = n; side = d; held = p })
+        (record { status = s′; counters = l′; ramp = r′; watts = w′; vars = v′; recovery = n′; side = d′; held = p′ })
+    made e₁ e₂ e₃ e₄ e₅ e₆ e₇ e₈ = rw (e₁, e₂, e₃, e₄, e₅, e₆, e₇, e₈)
 
 -- two images are equal only if the records are
 pub image-inj : (b c : Board) → FieldsFit b → FieldsFit c → image b ≡ image c → b ≡ c
@@ -151,4 +151,4 @@ image-inj b c f g e =
     let counters = each-inj 4 (b .counters) (c .counters) _ _ nine (tail-eq-of-cons-eq same) in
     let rest = counters .1 in
     let vars : twosComplement (b .vars) ≡ twosComplement (c .vars) = cc in
-    same-fields (head-eq-of-cons-eq same) (counters .0) (cc) (cc) (complement-inj _ _ (f .signed) (g .signed) vars) (cc)
+    same-fields (head-eq-of-cons-eq same) (counters .0) (cc) (cc) (complement-inj _ _ (f .signed) (g .signed) vars) (cc) (cc) (cc)

@@ -5,10 +5,12 @@ use mathlib.Core.Bool.{Bool, true, false, cond}
 use mathlib.Core.List.{List, [], _∷_}
 use Prim.Native.Nat.{ℕ, min}
 use native.Mathlib.Omega.{arith}
+use lib.Dec.{leb}
 use Rattle.rules.specs.Settings.{settingsAccepted}
 use Rattle.rules.specs.Samples.{Slice, Equipment, sampleAccepted}
 use Rattle.rules.specs.Counters.{Rule, rules}
 use Rattle.rules.specs.Reports.{reportOf}
+use Rattle.rules.specs.Droop.{noSide, lowSide, knownSide}
 use Rattle.rules.specs.Service.{inService, recoveryTop}
 use Rattle.rules.specs.Records.{each, capped, readAs, ruled, next, shown, stepOf}
 use Rattle.rules.specs.History.{History, serving}
@@ -19,12 +21,11 @@ use Rattle.rules.specs.declared.Stepped.{Stepped}
 use Rattle.claims.specs.Calls.{Call, Run, ruledBy, runOf, acceptedSamples, Under}
 use Rattle.claims.specs.LentRecords.{ReadsRecords}
 use Rattle.claims.specs.TripAndReturn.{recordOf}
-use Rattle.claims.specs.TwoHistories.{AllAccepted}
 use Rattle.basics.proofs.Bools.{both}
 use Rattle.laws.proofs.Images.{same-fields}
-use Rattle.laws.proofs.Trace.{kept-service, counters-are, service-is, ramp-is, recovery-is, status-is, watts-is, read-counters, read-ramp, read-recovery}
+use Rattle.laws.proofs.Trace.{kept-service, counters-are, service-is, ramp-is, recovery-is, side-is, held-is, status-is, watts-is}
+use Rattle.laws.proofs.Trace.{read-counters, read-ramp, read-recovery, read-side, read-held, read-watts}
 use Rattle.laws.proofs.Demand2.{accepted-step, refused-step, run-is, tripped-status}
-use Rattle.laws.proofs.Demand3.{samples-accepted, watts-below}
 
 -- ---- reading twice
 
@@ -51,6 +52,16 @@ ramp-twice s top n = ap (λ (b : Bool). cond b (min top (cond (inService s) (min
     by true = omega arith
     by false = refl
 
+side-twice : (s side : ℕ)
+    → cond (inService (cond (inService s) s 0)) (knownSide (cond (inService s) (knownSide side) noSide)) noSide ≡ cond (inService s) (knownSide side) noSide
+side-twice s side =
+    ap (λ (b : Bool). cond b (knownSide (cond (inService s) (knownSide side) noSide)) noSide) (kept-service s) ∙ by (inService s) (leb side lowSide) refl
+  where
+    by : (b t : Bool) → leb side lowSide ≡ t → cond b (knownSide (cond b (cond t side noSide) noSide)) noSide ≡ cond b (cond t side noSide) noSide
+    by true true p = rw p
+    by true false p = refl
+    by false t p = refl
+
 module _ (e : Equipment) (st : Settings) where
   pub read-twice : (b : Board) → readAs e st (readAs e st b) ≡ readAs e st b
   unfolding readAs
@@ -58,6 +69,7 @@ module _ (e : Equipment) (st : Settings) where
       let once : min 10000 (min 10000 (b .watts)) ≡ min 10000 (b .watts) = omega arith in
       let recovery : min recoveryTop (min recoveryTop (b .recovery)) ≡ min recoveryTop (b .recovery) = omega arith in
       same-fields (status-twice (b .status)) (each-twice (rules e st) (b .counters)) (ramp-twice (b .status) (st .ramp) (b .ramp)) once refl recovery
+      (side-twice (b .status) (b .side)) (ramp-twice (b .status) 10000 (b .held))
 
   -- ---- an accepted call
 
@@ -80,18 +92,17 @@ module _ (e : Equipment) (st : Settings) where
       by true p = refl
       by false p = sym (status-is e st h ∙ tripped-status e st h p)
 
-  read-kept : (h : History) → AllAccepted h → readAs e st (recordOf e st h) ≡ recordOf e st h
+  read-kept : (h : History) → readAs e st (recordOf e st h) ≡ recordOf e st h
   unfolding readAs
-  read-kept h a =
-      let watts : min 10000 (recordOf e st h .watts) ≡ recordOf e st h .watts = omega (arith, watts-is e st h, watts-below e st h a) in
-      same-fields (status-kept h) (read-counters e st h ∙ sym (counters-are e st h)) (read-ramp e st h ∙ sym (ramp-is e st h)) watts refl
-      (read-recovery e st h ∙ sym (recovery-is e st h))
+  read-kept h =
+      same-fields (status-kept h) (read-counters e st h ∙ sym (counters-are e st h)) (read-ramp e st h ∙ sym (ramp-is e st h)) (read-watts e st h ∙ sym (watts-is e st h)) refl
+      (read-recovery e st h ∙ sym (recovery-is e st h)) (read-side e st h ∙ sym (side-is e st h)) (read-held e st h ∙ sym (held-is e st h))
 
   run-kept : settingsAccepted st ≡ true → (cs : List Call) → Under st cs
       → readAs e st (runOf (ruledBy e) cs .board) ≡ runOf (ruledBy e) cs .board
   run-kept ok cs u =
       let is = ap (λ (r : Run). r .board) (run-is e st ok cs u) in
-      ap (readAs e st) is ∙ read-kept (acceptedSamples cs) (samples-accepted cs [] tt) ∙ sym is
+      ap (readAs e st) is ∙ read-kept (acceptedSamples cs) ∙ sym is
 
 pub reads-records : (e : Equipment) → ReadsRecords e (ruledBy e)
 reads-records e =

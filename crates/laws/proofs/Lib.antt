@@ -2,10 +2,13 @@ pub mod Accepted
 pub mod Limits
 pub mod InRange
 pub mod Counting
+pub mod Events
 pub mod Trace
 pub mod Bits
 pub mod Recovery
 pub mod RideThroughEnds
+pub mod HigherFrequency
+pub mod Droop
 pub mod Regions
 pub mod Trip
 pub mod Demand2

@@ -8,9 +8,10 @@ use native.Mathlib.Omega.{arith}
 use lib.Dec.{eqb}
 use lib.ListN.{length, getD}
 use Rattle.rules.specs.Tests.{any}
-use Rattle.rules.specs.Samples.{Slice, Equipment, permitted}
+use Rattle.rules.specs.Samples.{Slice, Equipment, frequency, permitted}
 use Rattle.rules.specs.Counters.{counted, full, tripRules, readyRule, rules}
 use Rattle.rules.specs.Regions.{regionOf, isContinuous}
+use Rattle.rules.specs.Droop.{sideAfter}
 use Rattle.rules.specs.Service.{serves, statusOf, inService, shareOf, varsOf, wattsOf}
 use Rattle.rules.specs.Records.{each, capped, readAs, settled, ruled, next, shown}
 use Rattle.rules.specs.History.{History, historyReport}
@@ -28,13 +29,23 @@ use Rattle.laws.proofs.RampBytes.{before-ramp, behind-ramp, ramp-bytes}
 
 -- a record with another ramp count
 abbrev pub withRamp : ℕ → Board → Board
-withRamp r b = record { status = b .status; counters = b .counters; ramp = r; watts = b .watts; vars = b .vars; recovery = b .recovery }
+withRamp r b =
+    record {
+      status = b .status;
+      counters = b .counters;
+      ramp = r;
+      watts = b .watts;
+      vars = b .vars;
+      recovery = b .recovery;
+      side = b .side;
+      held = b .held;
+    }
 
 -- a settled record with another ramp count, where that is full alike and has the same share
-pub settled-alike : (e : Equipment) (st : Settings) (x : Slice) (counters : List ℕ) (on : Bool) (r q recovery : ℕ) → eqb r (st .ramp) ≡ eqb q (st .ramp) → shareOf st r ≡ shareOf st q
-    → settled e st x counters on q recovery ≡ withRamp q (settled e st x counters on r recovery)
+pub settled-alike : (e : Equipment) (st : Settings) (x : Slice) (counters : List ℕ) (on : Bool) (r q recovery held : ℕ) → eqb r (st .ramp) ≡ eqb q (st .ramp) → shareOf st r ≡ shareOf st q
+    → settled e st x counters on q recovery held ≡ withRamp q (settled e st x counters on r recovery held)
 unfolding settled
-settled-alike e st x counters on r q recovery full share = ap₂ made (sym full) (sym share)
+settled-alike e st x counters on r q recovery held full share = ap₂ made (sym full) (sym share)
   where
     made : Bool → ℕ → Board
     made f s =
@@ -42,9 +53,11 @@ settled-alike e st x counters on r q recovery full share = ap₂ made (sym full)
           status = statusOf on (regionOf e x) f;
           counters = counters;
           ramp = q;
-          watts = wattsOf e st x (statusOf on (regionOf e x) f) s recovery;
+          watts = wattsOf e st x (statusOf on (regionOf e x) f) s recovery held;
           vars = varsOf e st x (statusOf on (regionOf e x) f);
           recovery = recovery;
+          side = sideAfter on (frequency x);
+          held = held;
         }
 
 module _ (e : Equipment) (st : Settings) (low : 1 ≤ st .ramp) where
@@ -88,13 +101,13 @@ module _ (e : Equipment) (st : Settings) (low : 1 ≤ st .ramp) where
   unfolding next ruled readAs settled
   after-alike x r q most b f =
       let now = agree-now most (st .ramp) (after x r b .ramp) (after x q b .ramp) f in
-      settled-alike e st x (counts x b) (on x b) _ _ _ (full-within _ _ (after-top x r b) (after-top x q b) now) (share-within _ _ (after-top x r b) (after-top x q b) now)
+      settled-alike e st x (counts x b) (on x b) _ _ _ _ (full-within _ _ (after-top x r b) (after-top x q b) now) (share-within _ _ (after-top x r b) (after-top x q b) now)
 
   run-agree : (most : ℕ) (run : List Slice) → length run ≤ most → (r q : ℕ) (b : Board) → r ≤ st .ramp → q ≤ st .ramp
       → SharesAgree most (st .ramp) r q → shown e st (stepped e st (withRamp r b) run) ≡ shown e st (stepped e st (withRamp q b) run)
   unfolding shown
   run-agree most [] l r q b r-in q-in f =
-      same-items refl refl (share-within r q r-in q-in (agree-now most (st .ramp) r q f)) refl refl refl
+      same-items refl refl (share-within r q r-in q-in (agree-now most (st .ramp) r q f)) refl refl refl refl refl
   run-agree zero (x ∷ run) l r q b r-in q-in f = absurd (omega arith)
   run-agree (suc most) (x ∷ run) l r q b r-in q-in f =
       let later = after-agree x r q most b f in

@@ -20,7 +20,8 @@ abbrev frontFields : Board → List Field
 frontFields b = field 1 (b .status) ∷ map (field 4) (b .counters)
 
 abbrev restFields : Board → List Field
-restFields b = field 2 (b .watts) ∷ field 2 (twosComplement (b .vars)) ∷ field 1 (b .recovery) ∷ []
+restFields b =
+    field 2 (b .watts) ∷ field 2 (twosComplement (b .vars)) ∷ field 1 (b .recovery) ∷ field 1 (b .side) ∷ field 2 (b .held) ∷ []
 
 counters-wide : (ns : List ℕ) → widths (map (field 4) ns) ≡ length ns * 4
 counters-wide [] = refl

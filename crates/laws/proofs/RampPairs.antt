@@ -14,9 +14,10 @@ use Rattle.rules.specs.Settings.{settingsAccepted, limitAt}
 use Rattle.rules.specs.Samples.{Slice, Equipment}
 use Rattle.rules.specs.Counters.{Kind, kinds, limitRules, readyRule, rules}
 use Rattle.rules.specs.Regions.{regionOf, ceases}
+use Rattle.rules.specs.Droop.{noSide, sideOf}
 use Rattle.rules.specs.Service.{inService}
 use Rattle.rules.specs.Records.{settled}
-use Rattle.rules.specs.History.{History, followedBy, streak, serving, climbed, sinceMore, sinceCessation, recoveredSince, historyRecovery, historyReport}
+use Rattle.rules.specs.History.{History, followedBy, streak, serving, climbed, sinceMore, sinceCessation, recoveredSince, historyRecovery, historySide, historyHeld, historyReport}
 use Rattle.rules.specs.Images.{image, imageLength, savedInto}
 use Rattle.rules.specs.declared.Settings.{Settings}
 use Rattle.rules.specs.declared.Board.{Board}
@@ -32,6 +33,7 @@ use Rattle.laws.proofs.Probes.{calm, calm-accepted, calm-breaks-none, c
 use Rattle.laws.proofs.Shares.{shareAt, SharesAgree, agree-now, full-alike}
 use Rattle.laws.proofs.Ramps.{calm-serves, climb-run, ramp-low, ramps-told}
 use Rattle.laws.proofs.Demand3.{status-top, saved-is}
+use Rattle.laws.proofs.Events.{side-none}
 use Rattle.laws.proofs.RampBytes.{same-status, counts-differ}
 use Rattle.laws.proofs.RampAlone.{withRamp, settled-alike, histories-agree, image-alone}
 
@@ -90,6 +92,15 @@ module _ (e : Equipment) (sound : Sound e) (st : Settings) (ok : settingsAccepte
   unfolding sinceCessation
   none-entered n = none-run n (nominal ∷ []) (none-more [] refl)
 
+  -- nominal is in the deadband
+  nothing-held : (h : History) → historyHeld e st (nominal ∷ h) ≡ 0
+  unfolding historySide sideOf
+  nothing-held h = side-none e st (nominal ∷ h) (by (serving e st (nominal ∷ h)) refl)
+    where
+      by : (on : Bool) → serving e st (nominal ∷ h) ≡ on → historySide e st (nominal ∷ h) ≡ noSide
+      by true p = rw p
+      by false p = rw p
+
   -- at nominal no limit's counter counts, and the ninth is full
   same-counts : (h g : History) (i : ℕ) (ks : List Kind) → LimitsIn st i ks
       → map (countOf (nominal ∷ h)) (limitRules e st i ks ++ (readyRule e st ∷ [])) ≡ map (countOf (nominal ∷ g)) (limitRules e st i ks ++ (readyRule e st ∷ []))
@@ -109,12 +120,14 @@ module _ (e : Equipment) (sound : Sound e) (st : Settings) (ok : settingsAccepte
       let p-a = calm-serves e sound st ok h p in
       let r-a = none-more h none-yet in
       let len = st .ramp in
-      ap (λ (cs : List ℕ). settled e st nominal cs (serving e st b) (min len (climbed e st b)) (historyRecovery e st b)) (same-counts a h 0 kinds (limits-in st ok))
-      ∙ ap (λ (on : Bool). settled e st nominal (map (countOf a) (rules e st)) on (min len (climbed e st b)) (historyRecovery e st b))
+      ap (λ (cs : List ℕ). settled e st nominal cs (serving e st b) (min len (climbed e st b)) (historyRecovery e st b) (historyHeld e st b)) (same-counts a h 0 kinds (limits-in st ok))
+      ∙ ap (λ (on : Bool). settled e st nominal (map (countOf a) (rules e st)) on (min len (climbed e st b)) (historyRecovery e st b) (historyHeld e st b))
       (calm-serves e sound st ok a p-a ∙ sym p-a)
-      ∙ ap (λ (o : Option ℕ). settled e st nominal (map (countOf a) (rules e st)) (serving e st a) (min len (climbed e st b)) (recoveredSince o))
+      ∙ ap (λ (o : Option ℕ). settled e st nominal (map (countOf a) (rules e st)) (serving e st a) (min len (climbed e st b)) (recoveredSince o) (historyHeld e st b))
       (none-more a r-a ∙ sym r-a)
-      ∙ settled-alike e st nominal (map (countOf a) (rules e st)) (serving e st a) (min len (climbed e st a)) (min len (climbed e st b)) (historyRecovery e st a)
+      ∙ ap (settled e st nominal (map (countOf a) (rules e st)) (serving e st a) (min len (climbed e st b)) (historyRecovery e st a))
+      (nothing-held a ∙ sym (nothing-held h))
+      ∙ settled-alike e st nominal (map (countOf a) (rules e st)) (serving e st a) (min len (climbed e st a)) (min len (climbed e st b)) (historyRecovery e st a) (historyHeld e st a)
       (full-alike len (climbed e st a) (climbed e st b) (ramp-low e sound st ok) same) same
 
   module _ (long : st .ramp ≡ 60000) where

@@ -10,8 +10,8 @@ use Rattle.rules.specs.Tests.{within}
 use Rattle.rules.specs.Settings.{settingsAccepted}
 use Rattle.rules.specs.Samples.{Slice, Equipment, available, sampleAccepted}
 use Rattle.rules.specs.Regions.{regionOf, ceases}
-use Rattle.rules.specs.Service.{statusOf, exports, recoveryTop, recovering, recoveryLimit, varsOf, Limited, standingLimits, powerLimits, least, wattsOf}
-use Rattle.rules.specs.History.{History, followedBy, serving, sinceCessation, historyStatus, historyShare, historyRecovery, historyWatts, historyVars, historyReport}
+use Rattle.rules.specs.Service.{statusOf, exports, recoveryTop, recovering, recoveryLimit, varsOf, cessationRecovery, leaves, wattsOf}
+use Rattle.rules.specs.History.{History, followedBy, serving, sinceCessation, historyStatus, historyShare, historyRecovery, wattsHolding, historyHeld, historyWatts, historyVars, historyReport}
 use Rattle.rules.specs.declared.Settings.{Settings}
 use Rattle.rules.specs.declared.Region.{Region}
 use Rattle.rules.specs.declared.Region.the-variants.{Continuous, Mandatory, Momentary, Cease}
@@ -19,10 +19,10 @@ use Rattle.claims.specs.Sound.{Sound}
 use Rattle.claims.specs.Recovery.{GivesPower, Ceased, leftByOthers, RestoresPower}
 use Rattle.basics.proofs.Bools.{within-true}
 use Rattle.laws.proofs.Accepted.{sample-right}
-use Rattle.laws.proofs.Least.{least-below, least-then, least-kept}
 use Rattle.laws.proofs.Demand2.{service-of, tripped-of}
 use Rattle.laws.proofs.Trip.{return-continuous}
-use Rattle.laws.proofs.Trace.{since-step, recovery-top}
+use Rattle.laws.proofs.Trace.{since-step}
+use Rattle.laws.proofs.Events.{recovery-top, watts-within, left-available, standing-then}
 
 -- ---- what a status tells
 
@@ -47,17 +47,17 @@ ceased-region true Cease full p = (refl, refl)
 module _ (e : Equipment) (st : Settings) where
   -- ---- one sample more
 
-  one-more : (x : Slice) (h : History)
+  pub one-more : (x : Slice) (h : History)
       → historyRecovery e st (x ∷ h) ≡ recovering (serving e st h) (serving e st (x ∷ h)) (ceases (regionOf e x)) (historyRecovery e st h)
   unfolding historyRecovery sinceCessation
   one-more x h = sym (since-step (serving e st h) (serving e st (x ∷ h)) (ceases (regionOf e x)) (sinceCessation e st h))
 
-  gives : (x : Slice) (h : History) → exports (historyStatus e st (x ∷ h)) ≡ true → (serving e st (x ∷ h) ≡ true) × (ceases (regionOf e x) ≡ false)
+  pub gives : (x : Slice) (h : History) → exports (historyStatus e st (x ∷ h)) ≡ true → (serving e st (x ∷ h) ≡ true) × (ceases (regionOf e x) ≡ false)
   unfolding historyStatus
   gives x h p = giving-region (serving e st (x ∷ h)) (regionOf e x) _ p
 
   -- a sample that gives power counts for a board that was in service, and leaves 40 at a return
-  gives-counts : (x : Slice) (h : History) → exports (historyStatus e st (x ∷ h)) ≡ true → serving e st h ≡ true
+  pub gives-counts : (x : Slice) (h : History) → exports (historyStatus e st (x ∷ h)) ≡ true → serving e st h ≡ true
       → historyRecovery e st (x ∷ h) ≡ min recoveryTop (suc (historyRecovery e st h))
   gives-counts x h p was = let g = gives x h p in one-more x h ∙ rw (was, g .0, g .1)
 
@@ -117,31 +117,25 @@ module _ (e : Equipment) (st : Settings) where
   -- ---- the limit
 
   watts-bound : (h : History) → historyWatts e st h ≤ recoveryLimit (historyRecovery e st h)
-  unfolding historyWatts wattsOf
+  unfolding historyWatts wattsHolding
   watts-bound [] = omega arith
-  watts-bound (x ∷ h) =
-      let status = historyStatus e st (x ∷ h) in
-      let limits = powerLimits e st x (historyShare e st (x ∷ h)) (historyRecovery e st (x ∷ h)) (varsOf e st x status) in
-      by (exports status) (map (λ (l : Limited). l .watts) limits) (recoveryLimit (historyRecovery e st (x ∷ h))) (omega arith) (omega arith)
-    where
-      by : (b : Bool) (ns : List ℕ) (top : ℕ) → 5 < length ns → getD ns 5 0 ≤ top → cond b (least ns) 0 ≤ top
-      by true ns top long low = omega (arith, least-below ns 5 long)
-      by false ns top long low = omega arith
+  watts-bound (x ∷ h) = watts-within e st x _ _ (historyRecovery e st (x ∷ h)) _
 
   watts-held : (x : Slice) (h : History) → exports (historyStatus e st (x ∷ h)) ≡ true
       → historyWatts e st (x ∷ h) ≡ min (leftByOthers e st x (historyReport e st (x ∷ h))) (recoveryLimit (historyRecovery e st (x ∷ h)))
-  unfolding historyReport historyWatts historyVars wattsOf
+  unfolding historyReport historyWatts wattsHolding historyVars wattsOf
   watts-held x h on =
-      let others = map (λ (l : Limited). l .watts) (drop 1 (standingLimits e st x (historyShare e st (x ∷ h)) (historyVars e st (x ∷ h)))) in
-      rw on (least-then (available x) others (recoveryLimit (historyRecovery e st (x ∷ h))))
+      let vars = varsOf e st x (historyStatus e st (x ∷ h)) in
+      rw on (standing-then e st x (historyShare e st (x ∷ h)) (historyHeld e st (x ∷ h)) vars (leaves cessationRecovery (recoveryLimit (historyRecovery e st (x ∷ h)))))
 
   -- where the count is 40 it lets the rating through, and available power is never above that
   watts-free : (x : Slice) (h : History) → sampleAccepted x ≡ true → exports (historyStatus e st (x ∷ h)) ≡ true → historyRecovery e st (x ∷ h) ≡ 40
       → historyWatts e st (x ∷ h) ≡ leftByOthers e st x (historyReport e st (x ∷ h))
-  unfolding historyReport historyWatts historyVars wattsOf
+  unfolding historyReport
   watts-free x h good on full =
-      let others = map (λ (l : Limited). l .watts) (drop 1 (standingLimits e st x (historyShare e st (x ∷ h)) (historyVars e st (x ∷ h)))) in
-      rw (on, full) (least-kept (available x) others 10000 (sample-right x good .available-top))
+      let low : leftByOthers e st x (historyReport e st (x ∷ h)) ≤ available x
+      = left-available e st x (historyShare e st (x ∷ h)) (historyHeld e st (x ∷ h)) (historyVars e st (x ∷ h)) in
+      omega (arith, watts-held x h on, full, low, sample-right x good .available-top)
 
   pub restores-power : Sound e → settingsAccepted st ≡ true → RestoresPower e st (historyReport e st)
   unfolding historyReport
@@ -158,7 +152,7 @@ module _ (e : Equipment) (st : Settings) where
         counts = counted;
         limit = λ h c run g few. omega (arith, counted h c run g, few);
         restored = λ h run g long. run-full run h g long;
-        held = watts-held;
+        lesser = watts-held;
         free = watts-free;
         bound = watts-bound;
       }

@@ -14,7 +14,7 @@ use Rattle.rules.specs.Settings.{settingsAccepted}
 use Rattle.rules.specs.Samples.{Slice, Equipment, frequency, lowest, highest}
 use Rattle.rules.specs.Regions.{frequencyRegion, rank, worse, regionOf, ceases}
 use Rattle.rules.specs.Service.{statusOf, exports, varsOf, wattsOf}
-use Rattle.rules.specs.History.{History, serving, climbed, historyStatus, historyRecovery, historyWatts, historyVars, historyReport}
+use Rattle.rules.specs.History.{History, serving, climbed, historyStatus, historyRecovery, wattsHolding, historyWatts, historyVars, historyReport}
 use Rattle.rules.specs.declared.Settings.{Settings}
 use Rattle.rules.specs.declared.Region.{Region}
 use Rattle.rules.specs.declared.Region.the-variants.{Continuous, Mandatory, Momentary, Cease}
@@ -97,12 +97,12 @@ silent-status true full = refl
 -- ---- of histories
 
 module _ (e : Equipment) (st : Settings) where
-  silent : (x : Slice) (h : History) → BeyondRideThrough x → exports (historyStatus e st (x ∷ h)) ≡ false
+  pub silent : (x : Slice) (h : History) → BeyondRideThrough x → exports (historyStatus e st (x ∷ h)) ≡ false
   unfolding historyStatus
   silent x h f = rw (beyond-region e x f) (silent-status (serving e st (x ∷ h)) (leb (st .ramp) (climbed e st (x ∷ h))))
 
   no-watts : (x : Slice) (h : History) → BeyondRideThrough x → historyWatts e st (x ∷ h) ≡ 0
-  unfolding historyWatts wattsOf
+  unfolding historyWatts wattsHolding wattsOf
   no-watts x h f = rw (silent x h f)
 
   no-vars : (x : Slice) (h : History) → BeyondRideThrough x → historyVars e st (x ∷ h) ≡ pos 0
@@ -118,7 +118,7 @@ module _ (e : Equipment) (st : Settings) where
   given-unless x h on = rw on (gives-unless (regionOf e x) (leb (st .ramp) (climbed e st (x ∷ h))))
 
   -- in service, from 57000 to 62000
-  given-by-voltages : (x : Slice) (h : History) → 57000 ≤ frequency x → frequency x ≤ 62000 → serving e st (x ∷ h) ≡ true
+  pub given-by-voltages : (x : Slice) (h : History) → 57000 ≤ frequency x → frequency x ≤ 62000 → serving e st (x ∷ h) ≡ true
       → (exports (historyStatus e st (x ∷ h)) ≡ true) ↔ ((ceases (e .region (lowest e x)) ≡ false) × (ceases (e .region (highest e x)) ≡ false))
   given-by-voltages x h low high on = (there, back)
     where

@@ -32,7 +32,7 @@ head-length r = simp length-append (omega (arith, word-length (r .status), bits-
 
 -- ---- whole lines
 
-pub report-length : (r : Report) → AllShort 4 (reportNumbers r) → length (reportLine r) ≤ 64
+pub report-length : (r : Report) → AllShort 4 (reportNumbers r) → length (reportLine r) ≤ 80
 report-length r short =
     let numbers = numbers-length 4 (reportNumbers r) short in
     rw (report-whole r) (simp length-append (omega (arith, head-length r)))

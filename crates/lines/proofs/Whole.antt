@@ -16,7 +16,7 @@ use Rattle.rules.specs.declared.Refusal.{Refusal}
 use Rattle.buffers.specs.Written.{Wrote}
 use Rattle.buffers.proofs.Writing.{and-then}
 use Rattle.pieces.specs.Pieces.{statusWord}
-use Rattle.lines.specs.Fronts.{reportHead, reportFront, isSteady}
+use Rattle.lines.specs.Fronts.{reportHead, reportFront, isSteady, eventNumbers, isCalm}
 
 pub report-whole : (r : Report) → reportLine r ≡ reportHead r ++ (spacedNumbers (reportNumbers r) ++ bytes ")\n")
 unfolding reportLine reportHead statusWord
@@ -27,6 +27,13 @@ pub number-then : (z : ℤ) (zs : List ℤ) (e : List ℕ) {d d₁ d₂ : List �
     → Wrote d₁ r₁ d₂ r₂ (spacedNumbers zs ++ e) → Wrote d at d₂ r₂ (spacedNumbers (z ∷ zs) ++ e)
 unfolding spacedNumbers
 number-then z zs e w₁ w₂ = rw (append-assoc (spaced z)) (and-then w₁ w₂)
+
+-- the two of an event, and then the others
+pub event-then : (side held : ℕ) (zs : List ℤ) (e : List ℕ) {d d₁ d₂ : List ℕ} {at r₁ r₂ : ℕ} → Wrote d at d₁ r₁ (eventNumbers side held)
+    → Wrote d₁ r₁ d₂ r₂ (spacedNumbers zs ++ e) → Wrote d at d₂ r₂ (spacedNumbers (pos side ∷ pos held ∷ zs) ++ e)
+unfolding spacedNumbers eventNumbers
+event-then side held zs e w₁ w₂ =
+    rw (append-assoc (spaced (pos side)), append-assoc (spaced (pos held))) (rw (append-assoc (spaced (pos side))) at (and-then w₁ w₂))
 
 pub numbers-end : (e : List ℕ) {d d₁ : List ℕ} {at r₁ : ℕ} → Wrote d at d₁ r₁ e → Wrote d at d₁ r₁ (spacedNumbers [] ++ e)
 unfolding spacedNumbers
@@ -53,6 +60,11 @@ steady-front r t =
       eqb-true (r .share) 10000 (share .0),
       eqb-true (r .recovery) 40 (share .1),
     )
+
+-- side and held power of no event
+pub calm-event : (side held : ℕ) → isCalm side held ≡ true → eventNumbers side held ≡ bytes " 0 0"
+unfolding eventNumbers spaced signedDecimal decimal digitsBefore
+calm-event side held t = let calm = both _ _ t in rw (eqb-true side 0 (calm .0), eqb-true held 0 (calm .1))
 
 pub refused-pieces : (cause : Refusal) (line : ℕ)
     → refusedLine cause line ≡ bytes "(refused" ++ (spaced (pos (refusalNumber cause)) ++ (spaced (pos line) ++ bytes ")\n"))

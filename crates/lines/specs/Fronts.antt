@@ -6,6 +6,7 @@ use Prim.Native.Nat.{ℕ, _+_}
 use lib.Dec.{eqb}
 use lib.IntN.{pos}
 use Rattle.rules.specs.Text.{bytes}
+use Rattle.rules.specs.Droop.{noSide}
 use Rattle.rules.specs.Service.{recoveryTop}
 use Rattle.rules.specs.Transcripts.{bitDigits, spaced}
 use Rattle.rules.specs.declared.Report.{Report}
@@ -23,6 +24,14 @@ reportFront r = reportHead r ++ (spaced (pos (r .share)) ++ spaced (pos (r .reco
 abbrev pub isSteady : Report → Bool
 isSteady r = eqb (r .status) 2 && (eqb (r .bits) 1 && (eqb (r .share) 10000 && eqb (r .recovery) recoveryTop))
 
+-- side and held power, behind the front
+unfoldable pub eventNumbers : ℕ → ℕ → List ℕ
+eventNumbers side held = spaced (pos side) ++ spaced (pos held)
+
+-- no event
+abbrev pub isCalm : ℕ → ℕ → Bool
+isCalm side held = eqb side noSide && eqb held 0
+
 -- ---- room: no front is longer
 
 -- the head: the begin, the longest status word, a space and nine bits
@@ -31,3 +40,6 @@ headRoom = 28
 
 abbrev pub frontRoom : ℕ
 frontRoom = headRoom + numberRoom + numberRoom
+
+abbrev pub eventRoom : ℕ
+eventRoom = numberRoom + numberRoom

@@ -4,7 +4,8 @@ ghost use Prim.Native.Nat.{_+_, _≤_};
 ghost use lib.ListN.{length};
 ghost use Rattle.rules.specs.Transcripts.{lineRoom, reportLine, refusedLine};
 ghost use Rattle.buffers.specs.Written.{Wrote};
-ghost use Rattle.lines.specs.Fronts.{headRoom, frontRoom, reportHead, reportFront, isSteady};
+ghost use Rattle.pieces.specs.Pieces.{numberRoom, longRoom};
+ghost use Rattle.lines.specs.Fronts.{headRoom, frontRoom, eventRoom, reportHead, reportFront, isSteady, eventNumbers, isCalm};
 use pieces::copies::put;
 use pieces::copies::put_byte;
 use pieces::numbers::put_bits;
@@ -60,12 +61,37 @@ fn put_front(out: &mut [u8], at: usize, report: Report) -> usize
     put_number(out, b, recovery)
 }
 
+// No event: side and held power are 0.
+fn is_calm(side: u8, held: u16) -> bool
+    ensures { λ r. ⌜ r ≡ isCalm side held ⌝ }
+{
+    if side != 0 {
+        return false;
+    }
+    held == 0
+}
+
+// Side and held power: at once where there is no event.
+fn put_event(out: &mut [u8], at: usize, side: u8, held: u16) -> usize
+    requires { ⌜ at + numberRoom + longRoom ≤ length (now out) ⌝ }
+    ensures { λ r. ⌜ Wrote (now (out .entry)) at (now (out .exit)) r (eventNumbers side held) ⌝ }
+    ensures { λ r. ⌜ r ≤ at + eventRoom ⌝ }
+{
+    if is_calm(side, held) {
+        return put(out, at, b" 0 0");
+    }
+    let number = side as u16;
+    let a = put_number(out, at, number);
+    put_number(out, a, held)
+}
+
 // A report: status word, nine bits and the numbers, the share first.
 pub fn put_report(out: &mut [u8], at: usize, report: Report) -> usize
     requires { ⌜ at + lineRoom ≤ length (now out) ⌝ }
     ensures { λ r. ⌜ Wrote (now (out .entry)) at (now (out .exit)) r (reportLine report) ⌝ }
 {
     let mut place = put_front(out, at, report);
+    place = put_event(out, place, report.side, report.held);
     place = put_number(out, place, report.watts);
     place = put_signed_number(out, place, report.vars);
     put(out, place, b")\n")

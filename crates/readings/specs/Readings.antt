@@ -24,5 +24,6 @@ readingOf e x =
 -- what the powers ask of the settings and of a reading
 pub record Exportable (r : Reading) (s : Settings) : Type 0 where
   pub sheet : settingsAccepted s ≡ true
+  pub frequency-top : r .frequency ≤ 80000
   pub available-top : r .available ≤ 10000
   pub limit-top : r .limit ≤ 10000

@@ -8,9 +8,10 @@ use Prim.Native.Nat.{ℕ, suc, min}
 use lib.Dec.{leb}
 use lib.IntN.{ℤ, pos}
 use Rattle.rules.specs.Tests.{any}
-use Rattle.rules.specs.Samples.{Slice, Equipment, permitted}
+use Rattle.rules.specs.Samples.{Slice, Equipment, frequency, permitted}
 use Rattle.rules.specs.Counters.{Rule, tripRules, readyRule, rules}
 use Rattle.rules.specs.Regions.{regionOf, isContinuous, ceases}
+use Rattle.rules.specs.Droop.{noSide, sideAfter, heldAfter}
 use Rattle.rules.specs.Service.{serves, statusOf, shareOf, recoveryTop, varsOf, wattsOf}
 use Rattle.rules.specs.Reports.{Items}
 use Rattle.rules.specs.declared.Settings.{Settings}
@@ -81,10 +82,25 @@ historyShare e st h = shareOf st (min (st .ramp) (climbed e st h))
 unfoldable pub historyRecovery : Equipment → Settings → History → ℕ
 historyRecovery e st h = recoveredSince (sinceCessation e st h)
 
+-- spec 6.16: the side that the newest sample leaves a board in service on
+unfoldable pub historySide : Equipment → Settings → History → ℕ
+historySide e st [] = noSide
+historySide e st (x ∷ h) = sideAfter (serving e st (x ∷ h)) (frequency x)
+
+-- the watts after the history, where this power is held
+unfoldable pub wattsHolding : Equipment → Settings → History → ℕ → ℕ
+wattsHolding e st [] held = 0
+wattsHolding e st (x ∷ h) held =
+    wattsOf e st x (historyStatus e st (x ∷ h)) (historyShare e st (x ∷ h)) (historyRecovery e st (x ∷ h)) held
+
+-- spec 6.17: the held power: a new event takes the watts of the report before
+unfoldable pub historyHeld : Equipment → Settings → History → ℕ
+historyHeld e st [] = 0
+historyHeld e st (x ∷ h) =
+    heldAfter (historySide e st h) (historySide e st (x ∷ h)) (historyHeld e st h) (wattsHolding e st h (historyHeld e st h))
+
 unfoldable pub historyWatts : Equipment → Settings → History → ℕ
-historyWatts e st [] = 0
-historyWatts e st (x ∷ h) =
-    wattsOf e st x (historyStatus e st (x ∷ h)) (historyShare e st (x ∷ h)) (historyRecovery e st (x ∷ h))
+historyWatts e st h = wattsHolding e st h (historyHeld e st h)
 
 unfoldable pub historyVars : Equipment → Settings → History → ℤ
 historyVars e st [] = pos 0
@@ -98,6 +114,8 @@ historyReport e st h =
       bits = map (complete h) (rules e st);
       share = historyShare e st h;
       recovery = historyRecovery e st h;
+      side = historySide e st h;
+      held = historyHeld e st h;
       watts = historyWatts e st h;
       vars = historyVars e st h;
     }

@@ -1,4 +1,4 @@
--- Spec 9: the 46 bytes of a record, high byte first, and the saving.
+-- Spec 9: the 49 bytes of a record, high byte first, and the saving.
 -- Assumes nothing.
 use mathlib.Core.Bool.{cond}
 use mathlib.Core.List.{List, [], _∷_, _++_, map}
@@ -33,18 +33,24 @@ abbrev pub twosComplement : ℤ → ℕ
 twosComplement (pos n) = n
 twosComplement (negsuc n) = 65535 - n
 
--- spec 9.1, 9.2: status, nine counters, ramp count, watts, vars in two's complement, recovery count; the record as it is, not as it is read
+-- spec 9.1, 9.2: status, nine counters, ramp count, watts, vars in two's complement, recovery count, side, held power; the record as it is, not as it is read
 unfoldable pub imageFields : Board → List Field
 imageFields b =
     field 1 (b .status)
     ∷ (map (field 4) (b .counters)
-    ++ (field 4 (b .ramp) ∷ field 2 (b .watts) ∷ field 2 (twosComplement (b .vars)) ∷ field 1 (b .recovery) ∷ []))
+    ++ (field 4 (b .ramp)
+    ∷ field 2 (b .watts)
+    ∷ field 2 (twosComplement (b .vars))
+    ∷ field 1 (b .recovery)
+    ∷ field 1 (b .side)
+    ∷ field 2 (b .held)
+    ∷ []))
 
 unfoldable pub image : Board → List ℕ
 image b = fieldBytes (imageFields b)
 
 abbrev pub imageLength : ℕ
-imageLength = 46
+imageLength = 49
 
 -- spec 9.4: a short buffer is refused
 unfoldable pub saveCheck : List ℕ → Saved

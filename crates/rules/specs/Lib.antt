@@ -6,6 +6,7 @@ pub mod Samples
 pub mod Counters
 pub mod Regions
 pub mod Curves
+pub mod Droop
 pub mod Service
 pub mod Reports
 pub mod Records

@@ -8,9 +8,10 @@ use lib.IntN.{pos}
 use lib.ListN.{getD, replicate}
 use Rattle.rules.specs.Tests.{any}
 use Rattle.rules.specs.Settings.{settingsCheck}
-use Rattle.rules.specs.Samples.{Slice, Equipment, permitted, sampleCheck}
+use Rattle.rules.specs.Samples.{Slice, Equipment, frequency, permitted, sampleCheck}
 use Rattle.rules.specs.Counters.{Rule, counted, full, tripRules, readyRule, rules}
 use Rattle.rules.specs.Regions.{regionOf, isContinuous, ceases}
+use Rattle.rules.specs.Droop.{noSide, sideAfter, knownSide, heldAfter}
 use Rattle.rules.specs.Service.{serves, ramped, statusOf, inService, shareOf, recoveryTop, recovering, varsOf, wattsOf}
 use Rattle.rules.specs.Reports.{Items, reportOf}
 use Rattle.rules.specs.declared.Settings.{Settings}
@@ -23,7 +24,8 @@ use Rattle.rules.specs.declared.Stepped.{Stepped}
 
 -- spec 5.3: a fresh board
 unfoldable pub fresh : Board
-fresh = record { status = 0; counters = replicate 9 0; ramp = 0; watts = 0; vars = pos 0; recovery = recoveryTop }
+fresh =
+    record { status = 0; counters = replicate 9 0; ramp = 0; watts = 0; vars = pos 0; recovery = recoveryTop; side = noSide; held = 0 }
 
 -- something of each rule and its counter, in order
 unfoldable pub each {ℓ} : {A : Type ℓ} → (Rule → ℕ → A) → List Rule → List ℕ → List A
@@ -35,7 +37,7 @@ each f (r ∷ rs) (n ∷ ns) = f r n ∷ each f rs ns
 abbrev pub capped : Rule → ℕ → ℕ
 capped r n = min (r .top) n
 
--- spec 5.4, whole; the rules look at counters, service, ramp and recovery alone
+-- spec 5.4, whole; no rule looks at the vars
 unfoldable pub readAs : Equipment → Settings → Board → Board
 readAs e st b =
     record {
@@ -45,19 +47,23 @@ readAs e st b =
       watts = min 10000 (b .watts);
       vars = b .vars;
       recovery = min recoveryTop (b .recovery);
+      side = cond (inService (b .status)) (knownSide (b .side)) noSide;
+      held = cond (inService (b .status)) (min 10000 (b .held)) 0;
     }
 
--- spec 6.13 to 7.7: the record, from: the nine counters, in service, the ramp count, the recovery count
-unfoldable pub settled : Equipment → Settings → Slice → List ℕ → Bool → ℕ → ℕ → Board
-settled e st x counters on ramp recovery =
+-- spec 6.13 to 7.8: the record, from: the nine counters, in service, the ramp count, the recovery count, the held power
+unfoldable pub settled : Equipment → Settings → Slice → List ℕ → Bool → ℕ → ℕ → ℕ → Board
+settled e st x counters on ramp recovery held =
     let status = statusOf on (regionOf e x) (eqb ramp (st .ramp)) in
     record {
       status = status;
       counters = counters;
       ramp = ramp;
-      watts = wattsOf e st x status (shareOf st ramp) recovery;
+      watts = wattsOf e st x status (shareOf st ramp) recovery held;
       vars = varsOf e st x status;
       recovery = recovery;
+      side = sideAfter on (frequency x);
+      held = held;
     }
 
 -- spec 6: what an accepted sample makes of a record that is in order
@@ -70,6 +76,7 @@ ruled e st x b =
     let on = serves was (permitted x) trip ready in
     settled e st x counters on (ramped was on (isContinuous (regionOf e x)) (st .ramp) (b .ramp))
     (recovering was on (ceases (regionOf e x)) (b .recovery))
+    (heldAfter (b .side) (sideAfter on (frequency x)) (b .held) (b .watts))
 
 -- what an accepted sample makes of a lent record
 unfoldable pub next : Equipment → Settings → Slice → Board → Board
@@ -83,6 +90,8 @@ shown e st b =
       bits = each full (rules e st) (b .counters);
       share = shareOf st (b .ramp);
       recovery = b .recovery;
+      side = b .side;
+      held = b .held;
       watts = b .watts;
       vars = b .vars;
     }

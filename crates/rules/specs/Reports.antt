@@ -12,6 +12,8 @@ pub record Items : Type 0 where
   pub bits : List Bool
   pub share : ℕ
   pub recovery : ℕ
+  pub side : ℕ
+  pub held : ℕ
   pub watts : ℕ
   pub vars : ℤ
 
@@ -28,6 +30,8 @@ reportOf i =
       bits = packedAfter 0 (i .bits);
       share = i .share;
       recovery = i .recovery;
+      side = i .side;
+      held = i .held;
       watts = i .watts;
       vars = i .vars;
     }

@@ -1,12 +1,14 @@
--- Spec 6.10 to 6.15, 7.3 to 7.7: trip and return, ramp, status, share, recovery, and the powers.
+-- Spec 6.10 to 6.15, 7.3 to 7.8: trip and return, ramp, status, share, recovery, and the powers.
 -- Assumes nothing.
 use mathlib.Core.Bool.{Bool, true, false, cond, not, _&&_}
 use mathlib.Core.List.{List, [], _∷_, _++_, map}
 use Prim.Native.Nat.{ℕ, suc, _*_, _/_, min}
+use lib.Dec.{eqb}
 use lib.IntN.{ℤ, pos, natAbs}
 use Rattle.rules.specs.Tests.{within}
-use Rattle.rules.specs.Samples.{Slice, Equipment, available, operatorLimit, mean}
+use Rattle.rules.specs.Samples.{Slice, Equipment, frequency, available, operatorLimit, mean}
 use Rattle.rules.specs.Curves.{curve, nameplate}
+use Rattle.rules.specs.Droop.{noSide, sideOf, drooped}
 use Rattle.rules.specs.declared.Settings.{Settings}
 use Rattle.rules.specs.declared.Region.{Region}
 use Rattle.rules.specs.declared.Region.the-variants.{Continuous, Mandatory, Momentary, Cease}
@@ -65,9 +67,9 @@ varsOf e st x status = cond (exports status) (curve (st .var) (mean e x)) (pos 0
 abbrev pub wattCurve : Equipment → Settings → Slice → ℕ
 wattCurve e st x = natAbs (curve (st .watt) (mean e x))
 
--- spec 7.5: what limits active power, by name
+-- spec 7.5, 7.8: what limits active power, by name
 pub data PowerLimit : Type 0 where
-  availablePower operatorsLimit rampShare voltWatt nameplateRating cessationRecovery : PowerLimit
+  availablePower operatorsLimit rampShare voltWatt nameplateRating cessationRecovery frequencyDroop : PowerLimit
 
 -- a limit, and the watts that it leaves
 pub record Limited : Type 0 where
@@ -77,19 +79,27 @@ pub record Limited : Type 0 where
 abbrev pub leaves : PowerLimit → ℕ → Limited
 leaves limit watts = record { limit = limit; watts = watts }
 
--- spec 7.5: the limits that stand whatever came before, in their order, from the share and the vars
-abbrev pub standingLimits : Equipment → Settings → Slice → ℕ → ℤ → List Limited
-standingLimits e st x share vars =
-    leaves availablePower (available x)
-    ∷ leaves operatorsLimit (operatorLimit x)
-    ∷ leaves rampShare share
-    ∷ leaves voltWatt (wattCurve e st x)
-    ∷ leaves nameplateRating (nameplate vars)
-    ∷ []
+-- spec 7.5: the first three limits outside an event, in their order
+abbrev pub calmLimits : Slice → ℕ → List Limited
+calmLimits x share = leaves availablePower (available x) ∷ leaves operatorsLimit (operatorLimit x) ∷ leaves rampShare share ∷ []
 
--- spec 7.5: all limits of a sample, that of the recovery count last
-abbrev pub powerLimits : Equipment → Settings → Slice → ℕ → ℕ → ℤ → List Limited
-powerLimits e st x share recovery vars = standingLimits e st x share vars ++ (leaves cessationRecovery (recoveryLimit recovery) ∷ [])
+-- spec 7.8: the one limit that takes their place in an event
+abbrev pub eventLimits : Slice → ℕ → List Limited
+eventLimits x held = leaves frequencyDroop (min (drooped (frequency x) held) (available x)) ∷ []
+
+-- spec 7.5, 7.8: those or this one; a board that gives power is in service, and so in an event where the frequency has a side
+abbrev pub firstLimits : Slice → ℕ → ℕ → List Limited
+firstLimits x share held = cond (eqb (sideOf (frequency x)) noSide) (calmLimits x share) (eventLimits x held)
+
+-- spec 7.5, 7.8: the limits beside that of the recovery count, in their order, from the share, the held power and the vars
+abbrev pub standingLimits : Equipment → Settings → Slice → ℕ → ℕ → ℤ → List Limited
+standingLimits e st x share held vars =
+    firstLimits x share held ++ (leaves voltWatt (wattCurve e st x) ∷ leaves nameplateRating (nameplate vars) ∷ [])
+
+-- spec 7.5, 7.8: all limits of a sample, that of the recovery count last
+abbrev pub powerLimits : Equipment → Settings → Slice → ℕ → ℕ → ℕ → ℤ → List Limited
+powerLimits e st x share recovery held vars =
+    standingLimits e st x share held vars ++ (leaves cessationRecovery (recoveryLimit recovery) ∷ [])
 
 -- the least number of a list
 abbrev pub least : List ℕ → ℕ
@@ -101,7 +111,7 @@ least (n ∷ m ∷ ns) = min n (least (m ∷ ns))
 abbrev pub leftBy : List Limited → ℕ
 leftBy limits = least (map (λ l. l .watts) limits)
 
--- spec 7.5, 7.6: in statuses 1 to 3 the least that a limit leaves
-unfoldable pub wattsOf : Equipment → Settings → Slice → ℕ → ℕ → ℕ → ℕ
-wattsOf e st x status share recovery =
-    cond (exports status) (leftBy (powerLimits e st x share recovery (varsOf e st x status))) 0
+-- spec 7.5, 7.6, 7.8: in statuses 1 to 3 the least that a limit leaves
+unfoldable pub wattsOf : Equipment → Settings → Slice → ℕ → ℕ → ℕ → ℕ → ℕ
+wattsOf e st x status share recovery held =
+    cond (exports status) (leftBy (powerLimits e st x share recovery held (varsOf e st x status))) 0

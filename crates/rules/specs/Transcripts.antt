@@ -36,7 +36,7 @@ bitDigits (suc k) n = bitDigits k (n / 2) ++ ((48 + n % 2) ∷ [])
 
 -- the numbers of a report line, in their order
 abbrev pub reportNumbers : Report → List ℤ
-reportNumbers r = pos (r .share) ∷ pos (r .recovery) ∷ pos (r .watts) ∷ r .vars ∷ []
+reportNumbers r = pos (r .share) ∷ pos (r .recovery) ∷ pos (r .side) ∷ pos (r .held) ∷ pos (r .watts) ∷ r .vars ∷ []
 
 -- a number after a space
 unfoldable pub spaced : ℤ → List ℕ

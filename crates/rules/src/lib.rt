@@ -10,7 +10,7 @@ pub const SHEET_LINES: usize = 13;
 pub const LINE_ROOM: usize = 128;
 
 // How many bytes an image has: no shorter buffer takes it; `imageLength` in specs/.
-pub const IMAGE_LENGTH: usize = 46;
+pub const IMAGE_LENGTH: usize = 49;
 
 // How many steps it takes until power is back after a cessation; `recoveryTop` in specs/.
 pub const RECOVERY_TOP: u8 = 40;
@@ -49,15 +49,18 @@ pub struct Settings {
 }
 
 // The board record that a host keeps and lends: its nine counters are the limits' in sheet order and then the ninth,
-// `ramp` is the ramp count, and `recovery` the recovery count, which stands where it costs no room.
+// `ramp` is the ramp count, `recovery` the recovery count, `side` that of a droop event, and `held` the power that is held in it. The
+// narrow fields stand where they cost least room.
 #[repr(C)]
 pub struct Board {
     pub status: u8,
     pub recovery: u8,
+    pub side: u8,
     pub counters: [u32; 9],
     pub ramp: u32,
     pub watts: u16,
     pub vars: i16,
+    pub held: u16,
 }
 
 // A report. Its nine bits are one number, uv1 highest and ready lowest.
@@ -69,6 +72,8 @@ pub struct Report {
     pub share: u16,
     pub watts: u16,
     pub vars: i16,
+    pub held: u16,
+    pub side: u8,
 }
 
 // The operating regions of ride-through (spec 6.7).

@@ -132,7 +132,7 @@ pub extern "C" fn saltdelta_step_explained(
     0
 }
 
-// The lent record's image at the front of a lent buffer; a buffer under 46 bytes keeps every byte.
+// The lent record's image at the front of a lent buffer; a buffer under 49 bytes keeps every byte.
 #[no_mangle]
 pub extern "C" fn saltdelta_save(board: &Board, buffer: &mut [u8]) -> u32
     ensures { λ r. ⌜ (r ≡ savedNumber (saveCheck (now (buffer .entry)))) × (now (buffer .exit) ≡ savedInto (now (board .entry)) (now (buffer .entry))) ⌝ }

@@ -13,11 +13,12 @@ use mir.Val.{SFits, toZ, ofZ}
 use mir.Facts.{toZ-ofZ}
 use Rattle.rules.specs.Tests.{any}
 use Rattle.rules.specs.Settings.{settingsCheck, settingsPassed, settingsAccepted}
-use Rattle.rules.specs.Samples.{Slice, Equipment, permitted, available, operatorLimit, mean, sampleCheck}
+use Rattle.rules.specs.Samples.{Slice, Equipment, frequency, permitted, mean, sampleCheck}
 use Rattle.rules.specs.Counters.{Rule, counted, full, broken, inRange, tripRules, readyRule, rules}
 use Rattle.rules.specs.Regions.{voltageRegion, regionOf, isContinuous, ceases}
 use Rattle.rules.specs.Curves.{curve, nameplate}
-use Rattle.rules.specs.Service.{serves, ramped, inService, exports, recoveryTop, recovering, recoveryLimit, varsOf, wattCurve, wattsOf}
+use Rattle.rules.specs.Droop.{noSide, sideAfter, knownSide, heldAfter}
+use Rattle.rules.specs.Service.{serves, ramped, inService, exports, recoveryTop, recovering, recoveryLimit, varsOf, wattCurve, firstLimits, leftBy, wattsOf}
 use Rattle.rules.specs.Reports.{packedAfter}
 use Rattle.rules.specs.Records.{each, capped, readAs, settled, ruled, next, turnedAway, onSample, onSettings, stepOf}
 use Rattle.rules.specs.declared.Settings.{Settings}
@@ -29,6 +30,7 @@ use Rattle.rules.specs.declared.SampleCheck.{SampleCheck}
 use Rattle.laws.proofs.Trace.{kept-service}
 use Rattle.laws.proofs.Curves.{fits16}
 use Rattle.laws.proofs.Least.{inTurn, in-turn}
+use Rattle.laws.proofs.Events.{all-then}
 use Rattle.laws.proofs.SameRules.{SameRules, counted-same, full-same}
 use Rattle.readings.specs.declared.reading.Reading.{Reading}
 use Rattle.readings.specs.Readings.{readingOf}
@@ -58,17 +60,17 @@ module _ (e : Equipment) (s : Settings) (x : Slice) (r : Reading) (q : readingOf
   unfolding varsOf
   vars-on z p = rw on (p ∙ ap (curve (s .var)) mean-is)
 
-  -- the limits in their standing order, one taken after the other
-  pub watts-on : (share recovery : ℕ) (z : ℤ) (c w : ℕ) → z ≡ curve (s .var) (r .sum / 3) → c ≡ natAbs (curve (s .watt) (r .sum / 3))
-      → w ≡ inTurn (r .available) (r .limit ∷ share ∷ c ∷ nameplate z ∷ recoveryLimit recovery ∷ [])
-      → w ≡ wattsOf e s x status share recovery
+  -- the least that the first limits leave, and then the others in their standing order, one taken after the other
+  pub watts-on : (share recovery held first : ℕ) (z : ℤ) (c w : ℕ) → first ≡ leftBy (firstLimits x share held)
+      → z ≡ curve (s .var) (r .sum / 3) → c ≡ natAbs (curve (s .watt) (r .sum / 3))
+      → w ≡ inTurn first (c ∷ nameplate z ∷ recoveryLimit recovery ∷ [])
+      → w ≡ wattsOf e s x status share recovery held
   unfolding wattsOf
-  watts-on share recovery z c w p k m =
-      let a : r .available ≡ available x = ap (λ (y : Reading). y .available) (sym q) in
-      let l : r .limit ≡ operatorLimit x = ap (λ (y : Reading). y .limit) (sym q) in
+  watts-on share recovery held first z c w l p k m =
       let v : nameplate z ≡ nameplate (varsOf e s x status) = ap nameplate (vars-on z p) in
       let d : c ≡ wattCurve e s x = k ∙ ap (λ (n : ℕ). natAbs (curve (s .watt) n)) mean-is in
-      rw on (m ∙ in-turn (r .available) (r .limit ∷ share ∷ c ∷ nameplate z ∷ recoveryLimit recovery ∷ []) ∙ rw (a, l, d, v))
+      rw on (m ∙ in-turn first (c ∷ nameplate z ∷ recoveryLimit recovery ∷ []) ∙ rw (l, d, v)
+      (sym (all-then e s x share recovery held (varsOf e s x status))))
 
 -- ---- the counters, on a reading and on the sample
 
@@ -109,7 +111,7 @@ full-last (q ∷ rs) r [] k h l = absurd (omega arith)
 full-last (q ∷ rs) r (n ∷ ns) zero h l = absurd (omega arith)
 full-last (q ∷ rs) r (n ∷ ns) (suc k) h l = ap (λ (bs : List Bool). full q n ∷ bs) (full-last rs r ns k (suc-inj h) (suc-inj l))
 
--- ---- counters, trip, return, ramp and recovery
+-- ---- counters, trip, return, ramp, recovery, side and held power
 
 -- what `advance` works out before it settles the record and the report
 pub record Found : Type 0 where
@@ -122,6 +124,8 @@ pub record Found : Type 0 where
   pub ramp : ℕ
   pub ceasing : Bool
   pub recovery : ℕ
+  pub side : ℕ
+  pub held : ℕ
 
 -- what its parts promise of that, for a reading r and a record b
 pub record Promised (s : Settings) (r : Reading) (b : Board) (f : Found) : Type 0 where
@@ -134,6 +138,9 @@ pub record Promised (s : Settings) (r : Reading) (b : Board) (f : Found) : Type 
   pub climb : f .ramp ≡ ramped (f .was) (f .on) (f .continues) (s .ramp) (cond (f .was) (min (s .ramp) (b .ramp)) 0)
   pub cessation : f .ceasing ≡ ceases (f .area)
   pub recovers : f .recovery ≡ recovering (f .was) (f .on) (f .ceasing) (min recoveryTop (b .recovery))
+  pub sided : f .side ≡ sideAfter (f .on) (r .frequency)
+  pub holds : f .held
+      ≡ heldAfter (cond (f .was) (knownSide (b .side)) noSide) (f .side) (cond (f .was) (min 10000 (b .held)) 0) (min 10000 (b .watts))
 
 module _ (e : Equipment) (s : Settings) (x : Slice) (r : Reading) (regions : e .region ≡ voltageRegion) (q : readingOf e x ≡ r)
     (b : Board) (nine : length (b .counters) ≡ 9) (f : Found) (p : Promised s r b f) where
@@ -174,9 +181,13 @@ module _ (e : Equipment) (s : Settings) (x : Slice) (r : Reading) (regions : e .
   unfolding readAs
   recovery-is = p .recovers ∙ rw (p .cessation, region-found)
 
-  pub advance-is : settled e s x (f .counters) (f .on) (f .ramp) (f .recovery) ≡ next e s x b
+  held-is : f .held ≡ heldAfter (readAs e s b .side) (sideAfter (f .on) (frequency x)) (readAs e s b .held) (readAs e s b .watts)
+  unfolding readAs
+  held-is = p .holds ∙ rw (p .sided, p .before, sym q)
+
+  pub advance-is : settled e s x (f .counters) (f .on) (f .ramp) (f .recovery) (f .held) ≡ next e s x b
   unfolding next ruled
-  advance-is = rw (ramp-is, recovery-is, on-is, was-is, counters-are)
+  advance-is = rw (ramp-is, recovery-is, held-is, on-is, was-is, counters-are)
 
 -- ---- refused calls
 

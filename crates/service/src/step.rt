@@ -7,6 +7,7 @@ ghost use Rattle.rules.specs.Tests.{any};
 ghost use Rattle.rules.specs.Settings.{settingsAccepted};
 ghost use Rattle.rules.specs.Samples.{Slice, Equipment};
 ghost use Rattle.rules.specs.Regions.{voltageRegion, regionOf, isContinuous, ourEquipment, equippedWith};
+ghost use Rattle.rules.specs.Droop.{sideAfter};
 ghost use Rattle.rules.specs.Service.{serves, ramped, statusOf, inService};
 ghost use Rattle.rules.specs.Refusals.{answerNumber};
 ghost use Rattle.rules.specs.Reports.{packedAfter};
@@ -16,6 +17,8 @@ ghost use Rattle.readings.specs.Readings.{readingOf, Exportable};
 ghost use Rattle.claims.specs.Calls.{freshReport};
 ghost use Rattle.service.specs.Steps.{Bits, reported};
 use crate::powers::powers_in;
+use droop::held_after;
+use droop::side_after;
 use readings::reading::Reading;
 use readings::reading::check;
 use readings::reading::read;
@@ -36,7 +39,7 @@ use rules::SettingsCheck;
 use rules::Stepped;
 use sensing::table;
 
-// A fresh board (spec 5.3): tripped, with all counters, ramp, watts and vars 0, and a full recovery count.
+// A fresh board (spec 5.3): tripped, with a full recovery count and all else 0.
 pub fn fresh() -> Board
     ensures { λ b. ⌜ b ≡ fresh ⌝ }
 {
@@ -47,10 +50,12 @@ pub fn fresh() -> Board
         watts: 0,
         vars: 0,
         recovery: RECOVERY_TOP,
+        side: 0,
+        held: 0,
     }
 }
 
-// Its report, before the first sample (spec 8.2): tripped, with all bits, share, watts and vars 0, and a full recovery count.
+// Its report, before the first sample (spec 8.2): tripped, with a full recovery count and all else 0.
 pub fn fresh_report() -> Report
     ensures { λ r. ⌜ r ≡ freshReport ⌝ }
 {
@@ -59,6 +64,8 @@ pub fn fresh_report() -> Report
         bits: 0,
         share: 0,
         recovery: RECOVERY_TOP,
+        side: 0,
+        held: 0,
         watts: 0,
         vars: 0,
     }
@@ -146,7 +153,8 @@ fn share(ramp: u32, length: u32) -> u32
     10000 * ramp / length
 }
 
-// Spec 6.13 to 8.1: the record and the report, from the counters, in service, the region, the ramp count and the recovery count.
+// Spec 6.13 to 8.1: the record and the report, from the counters, in service, the region, the ramp count, the recovery count, the side and the
+// held power.
 fn settle(
     s: Settings,
     r: Reading,
@@ -155,15 +163,17 @@ fn settle(
     area: Region,
     ramp: u32,
     recovery: u8,
+    side: u8,
+    held: u16,
 ) -> Stepped
-    requires { ⌜ (Exportable r s) × (ramp ≤ s .ramp) ⌝ }
+    requires { ⌜ (Exportable r s) × (ramp ≤ s .ramp) × (side ≡ sideAfter on (r .frequency)) ⌝ }
     ensures { λ t. ⌜ ((e : Equipment) (x : Slice) → readingOf e x ≡ r → regionOf e x ≡ area → Bits e s (c .n) (c .bits)
-        → t ≡ reported e s (settled e s x (c .n) on ramp recovery)) ⌝ }
+        → t ≡ reported e s (settled e s x (c .n) on ramp recovery held)) ⌝ }
 {
     let length = s.ramp;
     let status = status_of(on, area, ramp == length);
     let part = share(ramp, length);
-    let p = powers_in(r, s, status, part, recovery);
+    let p = powers_in(r, s, status, part, recovery, held);
     let n = c.n;
     let watts = p.watts as u16;
     let vars = p.vars as i16;
@@ -176,12 +186,16 @@ fn settle(
             watts,
             vars,
             recovery,
+            side,
+            held,
         },
         answer: Answer::Reported(Report {
             status,
             bits: c.bits,
             share: shown,
             recovery,
+            side,
+            held,
             watts,
             vars,
         }),
@@ -201,7 +215,9 @@ fn advance(b: Board, s: Settings, r: Reading) -> Stepped
     let area = region(inside, r);
     let ramp = ramp_after(was, on, is_continuous(area), s.ramp, b.ramp);
     let recovery = recovery_after(was, on, ceases(area), b.recovery);
-    settle(s, r, c, on, area, ramp, recovery)
+    let side = side_after(on, r.frequency);
+    let held = held_after(side, was, b.side, b.held, b.watts);
+    settle(s, r, c, on, area, ramp, recovery, side, held)
 }
 
 // The step under settings that are accepted and with a sensing table lent: only the sample is checked.

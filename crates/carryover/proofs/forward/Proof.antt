@@ -6,11 +6,10 @@ use mathlib.Core.Bool.{true}
 use mathlib.Core.List.{List, _++_}
 use Prim.Native.Nat.{ℕ, _≤_}
 use native.Mathlib.Omega.{arith}
-use lib.ListN.{length, take, drop, set}
-use lib.Seq.{take-all}
+use lib.ListN.{length, take, drop, length-set}
+use lib.Seq.{take-all, sets}
 use Rattle.buffers.specs.Written.{written}
 use Rattle.buffers.proofs.Writing.{stores, write-then, length-written}
-use Rattle.rules.specs.Service.{recoveryTop}
 use Rattle.rules.specs.Images.{imageLength}
 use Rattle.carryover.specs.CarryOver.{oldLength, addedBytes, carriedForward, forwardAnswer, forwardInto}
 use Rattle.carryover.specs.declared.CarryAnswer.{CarryAnswer}
@@ -18,9 +17,9 @@ use Rattle.carryover.proofs.Outcomes.{front, refused, carried, clear, f
 use Rattle.carryover.proofs.forward.Statement.{statement}
 use Rattle.carryover.proofs.forward.Tie as tie
 
--- the old bytes, and then the byte behind them
+-- the old bytes, and then those behind them
 both : (source target d : List ℕ) → (length source ≡ oldLength) × (imageLength ≤ length target) → d ≡ written target 0 (take oldLength source)
-    → set d oldLength recoveryTop ≡ carriedForward source ++ drop (length (carriedForward source)) target
+    → sets d oldLength addedBytes ≡ carriedForward source ++ drop (length (carriedForward source)) target
 both source target d long old =
     let whole : take oldLength source ≡ source = take-all oldLength source (omega (arith, long .0)) in
     let bytes : d ≡ written target 0 source = old ∙ ap (written target 0) whole in
@@ -65,6 +64,15 @@ copy-old-requires c κs = (omega (arith, long (c .before) .0), omega (arith, lon
 slice-write-target : tie.Need-slice-write-target
 slice-write-target c = let room = long (c .before .before .before .before) .1 in search needs
 
+slice-write-target-2 : tie.Need-slice-write-target-2
+slice-write-target-2 c = let room = long (c .before .before .before .before) .1 in simp length-set (omega arith)
+
+slice-write-target-3 : tie.Need-slice-write-target-3
+slice-write-target-3 c = let room = long (c .before .before .before .before) .1 in simp length-set (omega arith)
+
+slice-write-target-4 : tie.Need-slice-write-target-4
+slice-write-target-4 c = let room = long (c .before .before .before .before) .1 in simp length-set (omega arith)
+
 same-length : tie.Need-same-length
 same-length c = search needs
 
@@ -86,5 +94,8 @@ forward-spec =
     returns
     copy-old-requires
     slice-write-target
+    slice-write-target-2
+    slice-write-target-3
+    slice-write-target-4
     same-length
     returns-2)

@@ -26,11 +26,8 @@ put-bytes-requires-2 c κs = search needs
 put-powers-requires : tie.Need-put-powers-requires
 put-powers-requires c κs = search needs
 
-cast-put-bytes-2 : tie.Need-cast-put-bytes-2
-cast-put-bytes-2 c = search needs
-
-put-bytes-requires-3 : tie.Need-put-bytes-requires-3
-put-bytes-requires-3 c κs = search needs
+put-event-requires : tie.Need-put-event-requires
+put-event-requires c κs = search needs
 
 same-length : tie.Need-same-length
 same-length c = search needs
@@ -41,8 +38,8 @@ signed c = search needs
 returns : tie.Need-returns
 unfolding image imageFields
 returns c =
-    let recovery = c .before .before in
-    let powers = recovery .before .before .before .before .before in
+    let event = c .before .before in
+    let powers = event .before .before .before .before in
     let ramp = powers .before .before .before .before .before in
     let counters = ramp .before .before .before .before in
     let status = counters .before .before .before .before in
@@ -53,7 +50,7 @@ returns c =
     (fields-and _ _ (counters .put-counters .ensures .0)
     (field-then _ _ (ramp .put-bytes2 .ensures .0)
     (fields-and _ _ powers-written
-    (field-then _ _ (recovery .put-bytes3 .ensures .0)
+    (fields-and _ _ (event .put-event .ensures)
     (fields-end (omega arith)))))) in
     all .bytes
 
@@ -66,7 +63,6 @@ put-image-spec =
     put-counters-requires
     put-bytes-requires-2
     put-powers-requires
-    cast-put-bytes-2
-    put-bytes-requires-3
+    put-event-requires
     same-length
     returns)

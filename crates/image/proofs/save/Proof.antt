@@ -1,4 +1,4 @@
--- `image::save` meets its contract: a buffer under 46 bytes is left alone, and any other gets the image.
+-- `image::save` meets its contract: a buffer under 49 bytes is left alone, and any other gets the image.
 -- Assumes nothing.
 use borrow.Author.Needs.{needs}
 use borrow.Author.Tests.{le-leb, lt-leb}

@@ -8,13 +8,16 @@ use Rattle.rules.specs.Text.{bytes}
 use Rattle.rules.specs.Transcripts.{spacedNumbers}
 use Rattle.buffers.specs.Written.{Wrote}
 use Rattle.buffers.proofs.Writing.{and-then}
-use Rattle.lines.proofs.Whole.{number-then, numbers-end, afterFront, report-pieces}
+use Rattle.lines.proofs.Whole.{number-then, event-then, numbers-end, afterFront, report-pieces}
 use borrow.Author.Needs.{needs}
 use Rattle.lines.proofs.put_report.Statement.{statement}
 use Rattle.lines.proofs.put_report.Tie as tie
 
 put-front-requires : tie.Need-put-front-requires
 put-front-requires c κs = search needs
+
+put-event-requires : tie.Need-put-event-requires
+put-event-requires c κs = search needs
 
 put-number-requires : tie.Need-put-number-requires
 put-number-requires c κs = search needs
@@ -39,13 +42,15 @@ returns c =
     let close = c .before .before in
     let vars = close .before .before .before .before .before in
     let watts = vars .before .before .before .before .before in
-    let front = watts .before .before .before .before in
+    let event = watts .before .before .before .before in
+    let front = event .before .before .before .before in
     let start = front .before .before .before in
     let negative = rw (toZ-ofZ (signed start)) at (vars .put-signed-number .ensures .0) in
     let numbers : Wrote _ _ _ _ (spacedNumbers (afterFront (start .args .report)) ++ bytes ")\n")
-    = number-then _ _ _ (watts .put-number .ensures .0)
+    = event-then _ _ _ _ (event .put-event .ensures .0)
+    (number-then _ _ _ (watts .put-number .ensures .0)
     (number-then _ _ _ negative
-    (numbers-end _ (close .put .ensures))) in
+    (numbers-end _ (close .put .ensures)))) in
     rw (report-pieces (start .args .report)) (and-then (front .put-front .ensures .0) numbers)
 
 pub put-report-spec : {M : Type 1} → statement M
@@ -53,6 +58,7 @@ put-report-spec =
     tie.close
     (tie.spec
     put-front-requires
+    put-event-requires
     put-number-requires
     put-signed-number-requires
     slice-aggregate-put

@@ -5,6 +5,7 @@ use lib.ListN.{length}
 use denote.Ref.{now}
 use Rattle.rules.specs.Regions.{equippedWith}
 use Rattle.laws.proofs.Accepted.{sample-right}
+use Rattle.laws.proofs.Events.{watts-available}
 use Rattle.explain.proofs.Stepped as of
 use borrow.Author.Needs.{needs}
 use Rattle.explain.proofs.step.explained.Statement.{statement}
@@ -47,8 +48,8 @@ watts-rule-requires c κs =
     let watts = of.watts-are e (a .s) (now (a .x)) (a .b) (t .step-accepted .result) (t .step-accepted .ensures) _ told (start .pre) in
     let vars = of.vars-are e (a .s) (now (a .x)) (a .b) (t .step-accepted .result) (t .step-accepted .ensures) _ told (start .pre) in
     rw read (
-      record { sheet = start .pre; available-top = right .available-top; limit-top = right .limit-top },
-      rw watts (of.watts-low e (a .s) (now (a .x)) _ _ _),
+      record { sheet = start .pre; frequency-top = right .frequency-high; available-top = right .available-top; limit-top = right .limit-top },
+      rw watts (watts-available e (a .s) (now (a .x)) _ _ _ _),
       rw vars (of.vars-small e (a .s) (now (a .x)) _ (start .pre)),
     )
 

@@ -5,7 +5,6 @@ use mathlib.Core.Path.{_≡_, _∙_}
 use mathlib.Core.Bool.{true}
 use mathlib.Core.List.{[], _∷_}
 use Prim.Native.Nat.{_≤_}
-use native.Mathlib.Nat.{le-trans}
 use native.Mathlib.Omega.{arith}
 use mir.Syntax.{w32}
 use mir.Val.{toZ, ofZ}
@@ -43,14 +42,11 @@ volt-watt-requires c κs = (
   watt-not-negatives (c .before .before .before .before .before .before .args .s) (c .before .before .before .before .before .before .pre .sheet),
 )
 
+first-limits-requires : tie.Need-first-limits-requires
+first-limits-requires c κs = c .before .before .before .before .before .before .before .pre .frequency-top
+
 smaller-requires : tie.Need-smaller-requires
 smaller-requires c κs = search needs
-
-smaller-requires-2 : tie.Need-smaller-requires-2
-smaller-requires-2 c κs = search needs
-
-smaller-requires-3 : tie.Need-smaller-requires-3
-smaller-requires-3 c κs = search needs
 
 within-nameplate-requires : tie.Need-within-nameplate-requires
 within-nameplate-requires c κs = search needs
@@ -61,23 +57,25 @@ within-recovery-requires c κs = search needs
 returns-3 : tie.Need-returns-3
 returns-3 c =
     let rated = c .before in
-    let p₃ = rated .before in
-    let p₂ = p₃ .before in
-    let p₁ = p₂ .before in
-    let curve = p₁ .before .volt-watt in
-    let vars = p₁ .before .before .volt-var in
-    let tests = p₁ .before .before .before .before .before .before in
+    let flat = rated .before in
+    let first = flat .before in
+    let curve = first .before .volt-watt in
+    let vars = first .before .before .volt-var in
+    let tests = first .before .before .before .before .before .before in
     let a = tests .before .before .args in
     let pre = tests .before .before .pre in
     let on : exports (a .status) ≡ true = true-within 1 3 (a .status) (tests .before .if1 .left) (tests .if2 .left) in
     let same : toZ w32 (ofZ w32 (vars .result)) ≡ vars .result = kept32 (vars .result) (vars .ensures .1) in
-    let others = a .r .limit ∷ a .share ∷ curve .result ∷ nameplate (vars .result) ∷ recoveryLimit (a .recovery) ∷ [] in
-    let turns : c .within-recovery .result ≡ inTurn (a .r .available) others
-    = rw (c .within-recovery .ensures, rated .within-nameplate .ensures, p₃ .smaller3 .ensures, p₂ .smaller2 .ensures, p₁ .smaller .ensures, same) in
-    let low : c .within-recovery .result ≤ 10000 = rw turns (le-trans (in-turn-low (a .r .available) others) (pre .available-top)) in (
+    let others = curve .result ∷ nameplate (vars .result) ∷ recoveryLimit (a .recovery) ∷ [] in
+    let begin = first .first-limits in
+    let turns : c .within-recovery .result ≡ inTurn (begin .result) others
+    = rw (c .within-recovery .ensures, rated .within-nameplate .ensures, flat .smaller .ensures, same) in
+    let low : c .within-recovery .result ≤ 10000 = rw turns (omega (arith, in-turn-low (begin .result) others, begin .ensures .1, pre .available-top)) in (
       (λ e x q. same ∙ vars-on e (a .s) x (a .r) q (a .status) on (vars .result) (vars .ensures .0)),
       (
-        (λ e x q. watts-on e (a .s) x (a .r) q (a .status) on (a .share) (a .recovery) (vars .result) (curve .result) _ (vars .ensures .0) (curve .ensures .0) turns),
+        (λ e x q.
+            watts-on e (a .s) x (a .r) q (a .status) on (a .share) (a .recovery) (a .held) (begin .result) (vars .result) (curve .result) _ (begin .ensures .0 e x q)
+            (vars .ensures .0) (curve .ensures .0) turns),
         (low, rw same (vars .ensures .1)),
       ),
     )
@@ -90,9 +88,8 @@ powers-in-spec =
     returns-2
     volt-var-requires
     volt-watt-requires
+    first-limits-requires
     smaller-requires
-    smaller-requires-2
-    smaller-requires-3
     within-nameplate-requires
     within-recovery-requires
     returns-3)

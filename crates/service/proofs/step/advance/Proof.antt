@@ -1,7 +1,9 @@
 -- `service::step::advance` meets its contract: its parts, put together, are what the rules make of the record (`Stepping.antt`).
 -- Assumes nothing.
 use mathlib.Core.Path.{_≡_, sym, ap, _∙_}
+use native.Mathlib.Omega.{arith}
 use lib.ListN.{length}
+use Rattle.laws.proofs.Events.{after-top}
 use Rattle.laws.proofs.Shares.{read-top, ramp-top}
 use Rattle.ridethrough.proofs.Ordinary.{ordinary}
 use Rattle.service.specs.Steps.{reported}
@@ -41,9 +43,19 @@ ceases-requires c κs = search needs
 recovery-after-requires : tie.Need-recovery-after-requires
 recovery-after-requires c κs = search needs
 
+side-after-requires : tie.Need-side-after-requires
+side-after-requires c κs = search needs
+
+held-after-requires : tie.Need-held-after-requires
+held-after-requires c κs =
+    let on = c .before .before .before .before .before .before in
+    let start = on .before .before .before .before .before in
+    omega (arith, c .side-after .ensures, after-top (on .in-service-after .result) (start .args .r .frequency))
+
 settle-requires : tie.Need-settle-requires
 settle-requires c κs =
-    let ramp = c .before .before in
+    let side = c .before in
+    let ramp = side .before .before .before in
     let continues = ramp .before in
     let on = continues .before .before in
     let was = on .before in
@@ -51,7 +63,7 @@ settle-requires c κs =
     let a = start .args in
     let read = read-top (was .in-service .result) (a .s .ramp) (a .b .ramp) in
     let top = ramp-top (was .in-service .result) (on .in-service-after .result) (continues .is-continuous .result) (a .s .ramp) _ read in
-    (start .pre, rw (ramp .ramp-after .ensures) top)
+    (start .pre, rw (ramp .ramp-after .ensures) top, side .side-after .ensures)
 
 nine-counters : (c : tie.Start) → length (c .args .b .counters) ≡ 9
 nine-counters c = search needs
@@ -59,7 +71,9 @@ nine-counters c = search needs
 returns : tie.Need-returns
 returns c =
     λ e x regions q.
-    let recovery = c .before in
+    let held = c .before in
+    let side = held .before in
+    let recovery = side .before in
     let ceasing = recovery .before in
     let ramp = ceasing .before in
     let continues = ramp .before in
@@ -80,6 +94,8 @@ returns c =
       ramp = ramp .ramp-after .result;
       ceasing = ceasing .ceases .result;
       recovery = recovery .recovery-after .result;
+      side = side .side-after .result;
+      held = held .held-after .result;
     } in
     let promised : Promised (a .s) (a .r) (a .b) found
     = record {
@@ -92,6 +108,8 @@ returns c =
       climb = ramp .ramp-after .ensures;
       cessation = ceasing .ceases .ensures;
       recovers = recovery .recovery-after .ensures;
+      sided = side .side-after .ensures;
+      holds = held .held-after .ensures;
     } in
     let region-is = region-found e (a .s) x (a .r) regions q (a .b) (nine-counters start) found promised in
     let bits = bits-found e (a .s) x (a .r) regions q (a .b) (nine-counters start) found promised in
@@ -111,5 +129,7 @@ advance-spec =
     ramp-after-requires
     ceases-requires
     recovery-after-requires
+    side-after-requires
+    held-after-requires
     settle-requires
     returns)

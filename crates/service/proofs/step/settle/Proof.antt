@@ -1,11 +1,14 @@
 -- `service::step::settle` meets its contract: each field that it works out is the one that the rules leave.
 -- Assumes nothing.
+use mathlib.Core.Path.{sym, ap, _∙_}
 use native.Mathlib.Omega.{arith}
 use Rattle.laws.proofs.Accepted.{sheet-rows}
 use Rattle.laws.proofs.Curves.{fits16}
 use Rattle.rules.specs.Settings.{rows}
+use Rattle.rules.specs.Droop.{sideAfter}
 use Rattle.rules.specs.Reports.{reportOf}
 use Rattle.rules.specs.Records.{settled, shown}
+use Rattle.readings.specs.declared.reading.Reading.{Reading}
 use Rattle.service.proofs.Stepping.{kept32, kept16}
 use borrow.Author.Needs.{needs}
 use Rattle.service.proofs.step.settle.Statement.{statement}
@@ -42,7 +45,9 @@ returns c =
     let share = c .before .before .before .before .before .share in
     let status = c .before .before .before .before .before .before .status-of in
     let vars = kept16 (p .result .vars) (p .ensures .1 .1 .1) in
-    rw (vars, p .ensures .1 .0 e x q, p .ensures .0 e x q, share .ensures .0, status .ensures, region, bits)
+    let start = c .before .before .before .before .before .before .before in
+    let side = start .pre .2 ∙ ap (λ (r : Reading). sideAfter (start .args .on) (r .frequency)) (sym q) in
+    rw (vars, p .ensures .1 .0 e x q, p .ensures .0 e x q, share .ensures .0, status .ensures, side, region, bits)
 
 pub settle-spec : {M : Type 1} → statement M
 settle-spec =

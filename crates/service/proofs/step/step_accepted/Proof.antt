@@ -30,7 +30,7 @@ advance-requires c κs =
     let s = c .before .before .before .before .before in
     let ok : sampleAccepted (now (s .args .x)) ≡ true = ap samplePassed (sym (c .before .before .before .check .ensures) ∙ c .before .enum-told .given .1) in
     let right = sample-right (now (s .args .x)) ok in
-    rw (c .read .ensures) (record { sheet = s .pre; available-top = right .available-top; limit-top = right .limit-top })
+    rw (c .read .ensures) (record { sheet = s .pre; frequency-top = right .frequency-high; available-top = right .available-top; limit-top = right .limit-top })
 
 returns : tie.Need-returns
 returns c =
