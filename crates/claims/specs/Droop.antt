@@ -66,7 +66,7 @@ pub record Droops (e : Equipment) (st : Settings) (report : History → Items) :
       → report (x ∷ h) .watts ≡ leastWith e st x (report (x ∷ h)) (least (available x ∷ operatorLimit x ∷ report (x ∷ h) .share ∷ []))
   -- no watts are above the available power, on the low side as anywhere
   pub within-available : (x : Slice) (h : History) → report (x ∷ h) .watts ≤ available x
-  -- above the deadband no watts are above the held power, nor so above those of the last report before the event
+  -- above the deadband no watts are above the held power, and so none above those of the last report before the event
   pub within-held : (x : Slice) (h : History) → 60036 < frequency x → report (x ∷ h) .watts ≤ report (x ∷ h) .held
   -- there a higher frequency in a sample's place gives no more watts
   pub higher : (x y : Slice) (h : History) → SameButFrequency x y → 60036 < frequency x → frequency x ≤ frequency y
