@@ -26,6 +26,7 @@ pub fn side_of(f: u32) -> u8
 // The side after the step: that of the frequency where the board is in service.
 pub fn side_after(on: bool, f: u32) -> u8
     ensures { λ r. ⌜ r ≡ sideAfter on f ⌝ }
+    ensures { λ r. ⌜ r ≤ lowSide ⌝ }
 {
     if on { side_of(f) } else { 0 }
 }

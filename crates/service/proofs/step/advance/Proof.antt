@@ -3,7 +3,6 @@
 use mathlib.Core.Path.{_≡_, sym, ap, _∙_}
 use native.Mathlib.Omega.{arith}
 use lib.ListN.{length}
-use Rattle.laws.proofs.Events.{after-top}
 use Rattle.laws.proofs.Shares.{read-top, ramp-top}
 use Rattle.ridethrough.proofs.Ordinary.{ordinary}
 use Rattle.service.specs.Steps.{reported}
@@ -47,10 +46,7 @@ side-after-requires : tie.Need-side-after-requires
 side-after-requires c κs = search needs
 
 held-after-requires : tie.Need-held-after-requires
-held-after-requires c κs =
-    let on = c .before .before .before .before .before .before in
-    let start = on .before .before .before .before .before in
-    omega (arith, c .side-after .ensures, after-top (on .in-service-after .result) (start .args .r .frequency))
+held-after-requires c κs = c .side-after .ensures .1
 
 settle-requires : tie.Need-settle-requires
 settle-requires c κs =
@@ -63,7 +59,7 @@ settle-requires c κs =
     let a = start .args in
     let read = read-top (was .in-service .result) (a .s .ramp) (a .b .ramp) in
     let top = ramp-top (was .in-service .result) (on .in-service-after .result) (continues .is-continuous .result) (a .s .ramp) _ read in
-    (start .pre, rw (ramp .ramp-after .ensures) top, side .side-after .ensures)
+    (start .pre, rw (ramp .ramp-after .ensures) top, side .side-after .ensures .0)
 
 nine-counters : (c : tie.Start) → length (c .args .b .counters) ≡ 9
 nine-counters c = search needs
@@ -108,7 +104,7 @@ returns c =
       climb = ramp .ramp-after .ensures;
       cessation = ceasing .ceases .ensures;
       recovers = recovery .recovery-after .ensures;
-      sided = side .side-after .ensures;
+      sided = side .side-after .ensures .0;
       holds = held .held-after .ensures;
     } in
     let region-is = region-found e (a .s) x (a .r) regions q (a .b) (nine-counters start) found promised in
