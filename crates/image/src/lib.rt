@@ -7,20 +7,20 @@ ghost use lib.ListN.{length};
 ghost use Rattle.buffers.specs.Written.{written, Wrote};
 ghost use Rattle.claims.specs.FirstCause.{cause, first};
 ghost use Rattle.rules.specs.Refusals.{savedNumber};
-ghost use Rattle.rules.specs.Images.{numberBytes, field, fieldBytes, twosComplement, image, imageLength, saveCheck, savedInto};
+ghost use Rattle.rules.specs.Images.{field, fieldBytes, twosComplement, image, imageLength, saveCheck, savedInto};
 use rules::Board;
 use rules::IMAGE_LENGTH;
 use rules::Refusal;
 use rules::Saved;
 
-// A number at a place in so many bytes, its last byte first; the place after it.
-fn put_bytes(out: &mut [u8], at: usize, width: usize, n: u32) -> usize
+// One field at a place, a number in so many bytes, its last byte first; the place after it.
+fn put_field(out: &mut [u8], at: usize, width: usize, value: u32) -> usize
     requires { ⌜ at + width ≤ length (now out) ⌝ }
-    ensures { λ r. ⌜ Wrote (now (out .entry)) at (now (out .exit)) r (numberBytes width n) ⌝ }
+    ensures { λ r. ⌜ Wrote (now (out .entry)) at (now (out .exit)) r (fieldBytes (field width value ∷ [])) ⌝ }
     ensures { λ r. ⌜ r ≡ at + width ⌝ }
 {
     let mut left = width;
-    let mut rest = n;
+    let mut rest = value;
     while 0 < left {
         left -= 1;
         out[at + left] = (rest % 256) as u8;
@@ -29,16 +29,16 @@ fn put_bytes(out: &mut [u8], at: usize, width: usize, n: u32) -> usize
     at + width
 }
 
-// The nine counters, in four bytes each.
-fn put_counters(out: &mut [u8], at: usize, counters: [u32; 9]) -> usize
+// The nine counters of a record, in four bytes each.
+fn put_counters(out: &mut [u8], at: usize, b: Board) -> usize
     requires { ⌜ at + 36 ≤ length (now out) ⌝ }
-    ensures { λ r. ⌜ Wrote (now (out .entry)) at (now (out .exit)) r (fieldBytes (map (field 4) counters)) ⌝ }
+    ensures { λ r. ⌜ Wrote (now (out .entry)) at (now (out .exit)) r (fieldBytes (map (field 4) (b .counters))) ⌝ }
     ensures { λ r. ⌜ r ≡ at + 36 ⌝ }
 {
     let mut place = at;
     let mut i = 0;
     while i < 9 {
-        place = put_bytes(out, place, 4, counters[i]);
+        place = put_field(out, place, 4, b.counters[i]);
         i += 1;
     }
     place
@@ -63,8 +63,8 @@ fn put_powers(out: &mut [u8], at: usize, watts: u16, vars: i16) -> usize
 {
     let active = watts as u32;
     let reactive = twos_complement(vars) as u32;
-    let place = put_bytes(out, at, 2, active);
-    put_bytes(out, place, 2, reactive)
+    let place = put_field(out, at, 2, active);
+    put_field(out, place, 2, reactive)
 }
 
 // Recovery count and side, in one byte each, and the held power, in two.
@@ -72,9 +72,9 @@ fn put_event(out: &mut [u8], at: usize, recovery: u8, side: u8, held: u16) -> us
     requires { ⌜ at + 4 ≤ length (now out) ⌝ }
     ensures { λ r. ⌜ Wrote (now (out .entry)) at (now (out .exit)) r (fieldBytes (field 1 recovery ∷ field 1 side ∷ field 2 held ∷ [])) ⌝ }
 {
-    let a = put_bytes(out, at, 1, recovery as u32);
-    let b = put_bytes(out, a, 1, side as u32);
-    put_bytes(out, b, 2, held as u32)
+    let a = put_field(out, at, 1, recovery as u32);
+    let b = put_field(out, a, 1, side as u32);
+    put_field(out, b, 2, held as u32)
 }
 
 // The image at the front of a buffer that holds it: each field after the one before it.
@@ -82,10 +82,9 @@ fn put_image(out: &mut [u8], b: Board)
     requires { ⌜ imageLength ≤ length (now out) ⌝ }
     ensures { λ _. ⌜ now (out .exit) ≡ written (now (out .entry)) 0 (image b) ⌝ }
 {
-    let counters = b.counters;
-    let mut at = put_bytes(out, 0, 1, b.status as u32);
-    at = put_counters(out, at, counters);
-    at = put_bytes(out, at, 4, b.ramp);
+    let mut at = put_field(out, 0, 1, b.status as u32);
+    at = put_counters(out, at, b);
+    at = put_field(out, at, 4, b.ramp);
     at = put_powers(out, at, b.watts, b.vars);
     put_event(out, at, b.recovery, b.side, b.held);
 }

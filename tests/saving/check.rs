@@ -1,0 +1,93 @@
+//! Saving holds no array of bytes (request 7): a test of the source of everything that it calls, names and is given, tried on copies of the source
+//! that it must turn down and on others that it must pass; and the compiler's own account of the same functions.
+//! check CRATES MIR: the folder of the crates, and the file that `rt mir saltdelta` wrote.
+
+mod copies;
+mod lowered;
+mod reach;
+mod source;
+
+use copies::{changed, Copy, RIGHT, WRONG};
+use reach::{reach, Reached};
+use source::Source;
+use std::collections::BTreeMap;
+
+/// The saving from C, and the one by value.
+const ROOTS: [&str; 2] = ["saltdelta::saltdelta_save", "image::save"];
+
+/// What saving is made of, at the least.
+const EXPECTED: [&str; 6] =
+    ["saltdelta::saltdelta_save", "image::save", "image::put_field", "rules::refusal_number", "rules::Board", "rules::IMAGE_LENGTH"];
+
+#[derive(Default)]
+struct Tally {
+    passed: usize,
+    failed: usize,
+}
+
+impl Tally {
+    fn expect(&mut self, right: bool, said: impl FnOnce() -> String) {
+        if right {
+            self.passed += 1;
+        } else {
+            self.failed += 1;
+            println!("{}", said());
+        }
+    }
+}
+
+fn looked_at(texts: &BTreeMap<String, String>) -> Reached {
+    reach(&Source::of(texts), &ROOTS)
+}
+
+/// The source as it stands: an item passes where nothing is found in it.
+fn stands(tally: &mut Tally, reached: &Reached) {
+    println!("saving calls, names and is given: {}", reached.items.iter().cloned().collect::<Vec<_>>().join(", "));
+    for finding in &reached.findings {
+        println!("{}", finding.said);
+    }
+    for item in &reached.items {
+        tally.expect(reached.findings.iter().all(|f| &f.item != item), || format!("{item}: not as saving should be"));
+    }
+    tally.expect(reached.findings.is_empty(), || "something was found".to_string());
+    for name in EXPECTED {
+        tally.expect(reached.items.contains(name), || format!("{name} is not reached"));
+    }
+}
+
+/// A wrong copy is turned down in the item and for the reason that it names.
+fn turned_down(tally: &mut Tally, texts: &BTreeMap<String, String>, copy: &Copy) {
+    let Some((why, item)) = copy.found else { return };
+    let found = changed(texts, copy).map(|texts| looked_at(&texts).findings);
+    let right = found.as_ref().is_some_and(|f| f.iter().any(|f| f.why == why && f.item == item));
+    tally.expect(right, || format!("the wrong copy '{}' is not turned down as {why:?} in {item}: {found:?}", copy.name));
+}
+
+/// A right copy passes, whatever stands beside saving.
+fn passed(tally: &mut Tally, texts: &BTreeMap<String, String>, copy: &Copy) {
+    let found = changed(texts, copy).map(|texts| looked_at(&texts).findings);
+    tally.expect(found.as_ref().is_some_and(Vec::is_empty), || format!("the right copy '{}' is turned down: {found:?}", copy.name));
+}
+
+fn main() -> std::io::Result<()> {
+    let words: Vec<String> = std::env::args().collect();
+    let texts = source::files(words[1].as_ref())?;
+    let mut tally = Tally::default();
+    let reached = looked_at(&texts);
+    stands(&mut tally, &reached);
+    for copy in WRONG {
+        turned_down(&mut tally, &texts, copy);
+    }
+    for copy in RIGHT {
+        passed(&mut tally, &texts, copy);
+    }
+    println!("copies of the source: {} turned down or to be, {} passed or to be", WRONG.len(), RIGHT.len());
+    let program = lowered::Program::of(&std::fs::read_to_string(&words[2])?);
+    let called = program.called(ROOTS[0]);
+    tally.expect(called == reached.functions, || format!("the compiler has other functions: {called:?}, not {:?}", reached.functions));
+    for name in &called {
+        tally.expect(program.holds_no_array(name), || format!("{name}: the compiler has an array in it"));
+    }
+    println!("{} passed, {} failed", tally.passed, tally.failed);
+    std::process::exit(i32::from(tally.failed > 0));
+}
