@@ -1,10 +1,12 @@
-/* What asking costs: the library's step and its explained step, side by side in one run, on the same samples. Prints nanoseconds a step, best of
- * the rounds, and the ratio. `steps WHICH N` only makes N steps of one kind (p plain, e explained), for counting instructions. */
-#define _POSIX_C_SOURCE 199309L
+/* What asking and logging cost: the library's step, its explained step, and a step with a saving behind it, side by side in one run, on the same
+ * samples. Prints nanoseconds a step, best of the rounds, the ratios, and the stack that each call takes. `steps WHICH N` only makes N steps of one
+ * kind (p plain, e explained, l logged), for counting instructions. */
+#define _XOPEN_SOURCE 600
 #include <stdio.h>
 #include <stdlib.h>
 #include <string.h>
 #include <time.h>
+#include <ucontext.h>
 
 #include "saltdelta.h"
 
@@ -48,7 +50,66 @@ static unsigned explained(unsigned long steps) {
     return report.report.watts;
 }
 
-static double timed(unsigned (*steps)(unsigned long), unsigned *watts) {
+static unsigned logged(unsigned long steps) {
+    saltdelta_board board = saltdelta_fresh();
+    saltdelta_report report = saltdelta_fresh_report();
+    uint32_t x[7];
+    uint8_t image[SALTDELTA_IMAGE];
+    for (unsigned long i = 0; i < steps; i++) {
+        sample(x, i);
+        saltdelta_step(&board, &settings, x, 7, &report);
+        saltdelta_save(&board, image, sizeof image);
+    }
+    return image[41] * 256U + image[42];
+}
+
+typedef unsigned (*kind)(unsigned long);
+static const kind kinds[3] = {plain, explained, logged};
+
+/* ---- the stack, by what is left of a pattern on a stack of its own */
+
+static saltdelta_board lent_board;
+static saltdelta_report lent_report;
+static saltdelta_explained lent_explained;
+static uint8_t lent_buffer[SALTDELTA_IMAGE];
+static uint32_t lent_sample[7];
+static volatile uint32_t answered;
+
+static void no_call(void) { answered = 1; }
+static void a_step(void) { answered = saltdelta_step(&lent_board, &settings, lent_sample, 7, &lent_report); }
+static void an_explained_step(void) { answered = saltdelta_step_explained(&lent_board, &settings, lent_sample, 7, &lent_explained); }
+static void a_saving(void) { answered = saltdelta_save(&lent_board, lent_buffer, sizeof lent_buffer); }
+
+static uint8_t stack[1 << 16];
+static ucontext_t here, there;
+
+static size_t used(void (*call)(void), int pattern) {
+    size_t untouched = 0;
+    memset(stack, pattern, sizeof stack);
+    getcontext(&there);
+    there.uc_stack.ss_sp = stack;
+    there.uc_stack.ss_size = sizeof stack;
+    there.uc_link = &here;
+    makecontext(&there, call, 0);
+    swapcontext(&here, &there);
+    while (untouched < sizeof stack && stack[untouched] == pattern)
+        untouched++;
+    return sizeof stack - untouched;
+}
+
+/* Bytes below the caller's frame, return address included. */
+static size_t taken(void (*call)(void)) {
+    size_t most = 0;
+    for (int pattern = 1; pattern < 256; pattern += 85) {
+        const size_t bytes = used(call, pattern) - used(no_call, pattern);
+        most = bytes > most ? bytes : most;
+    }
+    return most;
+}
+
+/* ---- */
+
+static double timed(kind steps, unsigned *watts) {
     struct timespec from, to;
     clock_gettime(CLOCK_MONOTONIC, &from);
     *watts = steps(STEPS);
@@ -57,19 +118,23 @@ static double timed(unsigned (*steps)(unsigned long), unsigned *watts) {
 }
 
 int main(int count, char **words) {
-    double best[2] = {0, 0};
-    unsigned watts[2] = {0, 0};
+    double best[3] = {0, 0, 0};
+    unsigned watts[3] = {0, 0, 0};
     saltdelta_read_sheet(&settings, (const uint8_t *)sheet, sizeof sheet - 1);
     if (count == 3) {
-        printf("%u\n", (words[1][0] == 'e' ? explained : plain)(strtoul(words[2], NULL, 10)));
+        printf("%u\n", kinds[words[1][0] == 'e' ? 1 : words[1][0] == 'l' ? 2 : 0](strtoul(words[2], NULL, 10)));
         return 0;
     }
     for (int round = 0; round < ROUNDS; round++)
-        for (int kind = 0; kind < 2; kind++) {
-            const double ns = timed(kind ? explained : plain, &watts[kind]);
-            if (round == 0 || ns < best[kind])
-                best[kind] = ns;
+        for (int i = 0; i < 3; i++) {
+            const double ns = timed(kinds[i], &watts[i]);
+            if (round == 0 || ns < best[i])
+                best[i] = ns;
         }
-    printf("step %.1f ns, explained step %.1f ns, ratio %.3f; watts %u and %u\n", best[0], best[1], best[1] / best[0], watts[0], watts[1]);
-    return watts[0] != watts[1];
+    printf("step %.1f ns, explained step %.1f ns, ratio %.3f; step and saving %.1f ns, ratio %.3f; watts %u, %u and %u\n", best[0], best[1],
+           best[1] / best[0], best[2], best[2] / best[0], watts[0], watts[1], watts[2]);
+    lent_board = saltdelta_fresh();
+    sample(lent_sample, 1);
+    printf("stack in bytes: step %zu, explained step %zu, saving %zu\n", taken(a_step), taken(an_explained_step), taken(a_saving));
+    return watts[0] != watts[1] || watts[0] != watts[2];
 }

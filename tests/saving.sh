@@ -1,5 +1,5 @@
 #!/usr/bin/env bash
-# Saving holds no array of bytes of its own (spec 9.3): a test of the source of everything that it calls (tests/saving/). A pass is an item of the
+# Saving holds no array of bytes of its own (spec 9.9): a test of the source of everything that it calls (tests/saving/). A pass is an item of the
 # source that saving reaches and that holds none, a wrong copy of the source that is turned down, a right one that is not, or a function in which
 # the compiler has none either.
 set -u

@@ -690,16 +690,35 @@ static uint32_t step(saltdelta_board *b, const saltdelta_settings *s, const uint
     return number;
 }
 
+/* Savings go to any place of a log. They are counted by how far it is past one that 16 divides, and by the bytes that they left other than 0 and
+ * than what stood there. */
+enum { LOG = 128, PLACES = 16 };
+static unsigned placed[PLACES], byte_written[SALTDELTA_IMAGE];
+
+static void saved_shown(const uint8_t *buffer) {
+    placed[(uintptr_t)buffer % PLACES]++;
+    for (int i = 0; i < SALTDELTA_IMAGE; i++)
+        byte_written[i] += buffer[i] != 0 && buffer[i] != 0xAA;
+}
+
 static uint32_t save(const saltdelta_board *b, size_t length) {
-    uint8_t buffer[64];
+    static unsigned made;
+    uint8_t log[LOG], was[LOG];
+    uint8_t *const buffer = log + 16 + made++ % PLACES;
     uint32_t number;
-    memset(buffer, 0xAA, sizeof buffer);
+    memset(log, 0xAA, sizeof log);
+    memset(was, 0xAA, sizeof was);
     number = saltdelta_save(b, buffer, length);
     fprintf(calls, "save %zu\n", length);
-    if (number == SALTDELTA_ACCEPTED)
+    if (number == SALTDELTA_ACCEPTED) {
         fputs("saved ", answers);
-    else
+        saved_shown(buffer);
+    } else {
         fprintf(answers, "refused %" PRIu32 " ", number);
+    }
+    memcpy(was + (buffer - log), buffer, length);
+    if (memcmp(log, was, sizeof log) != 0)
+        fputs("with other bytes ", answers);
     put_bytes(buffer, length);
     return number;
 }
@@ -1307,6 +1326,28 @@ static void buffers(void) {
     }
 }
 
+/* Any records, saved one behind the other. */
+static void log_saves(void) {
+    anew();
+    for (int i = 0; i < 2400; i++) {
+        const saltdelta_board b = any_record();
+        give_record(&b);
+        save(&b, within(SALTDELTA_IMAGE, 60));
+    }
+}
+
+static void log_reached(void) {
+    char which[48];
+    for (int i = 0; i < PLACES; i++) {
+        sprintf(which, "%d past one that 16 divides", i);
+        often(placed[i], "log: a place ", which, "");
+    }
+    for (int i = 0; i < SALTDELTA_IMAGE; i++) {
+        sprintf(which, "%d written", i);
+        often(byte_written[i], "log: byte ", which, "");
+    }
+}
+
 static void buffers_reached(void) {
     for (int i = 0; i < BUFFERS; i++) {
         char into[48];
@@ -1758,6 +1799,7 @@ int main(int argc, char **argv) {
     }
     event_replays();
     buffers();
+    log_saves();
     carries();
     long_carries();
     round_trips();
@@ -1773,6 +1815,7 @@ int main(int argc, char **argv) {
     droops_reached();
     replay_ends_reached();
     buffers_reached();
+    log_reached();
     printf("%d passed, %d failed\n", passed, failed);
     return failed != 0;
 }

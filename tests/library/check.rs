@@ -12,6 +12,7 @@ mod droops;
 #[path = "../compare/edges.rs"]
 mod edges;
 mod library;
+mod logs;
 mod ramps;
 
 use comparison as other;
@@ -1519,6 +1520,7 @@ fn main() {
     let mut seen = [0; 10];
     saves(&mut tally, &mut Dice(45), &mut seen);
     println!("saves: {} written, {} refused with 9", seen[0], seen[9]);
+    logs::savings(&mut tally, &mut Dice(16_049));
     let mut seen = [0; 10];
     sheets(&mut tally, &mut Dice(13), &mut seen);
     println!("sheets: numbers answered {:?}", &seen[..4]);

@@ -1,4 +1,4 @@
-//! Saving holds no array of bytes (request 7): a test of the source of everything that it calls, names and is given, tried on copies of the source
+//! Saving holds no array of bytes (spec 9.9): a test of the source of everything that it calls, names and is given, tried on copies of the source
 //! that it must turn down and on others that it must pass; and the compiler's own account of the same functions.
 //! check CRATES MIR: the folder of the crates, and the file that `rt mir saltdelta` wrote.
 
@@ -81,7 +81,7 @@ fn main() -> std::io::Result<()> {
     for copy in RIGHT {
         passed(&mut tally, &texts, copy);
     }
-    println!("copies of the source: {} turned down or to be, {} passed or to be", WRONG.len(), RIGHT.len());
+    println!("copies of the source: {} wrong ones, {} right ones", WRONG.len(), RIGHT.len());
     let program = lowered::Program::of(&std::fs::read_to_string(&words[2])?);
     let called = program.called(ROOTS[0]);
     tally.expect(called == reached.functions, || format!("the compiler has other functions: {called:?}, not {:?}", reached.functions));
