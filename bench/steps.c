@@ -1,6 +1,6 @@
 /* What asking and logging cost: the library's step, its explained step, and a step with a saving behind it, side by side in one run, on the same
- * samples. Prints nanoseconds a step, best of the rounds, the ratios, and the stack that each call takes. `steps WHICH N` only makes N steps of one
- * kind (p plain, e explained, l logged), for counting instructions. */
+ * samples. Prints nanoseconds a step, best of the rounds, the ratios, and the stack that a first step from fresh, plain or explained, and a saving
+ * take. `steps WHICH N` only makes N steps of one kind (p plain, e explained, l logged), for counting instructions. */
 #define _XOPEN_SOURCE 600
 #include <stdio.h>
 #include <stdlib.h>
@@ -80,17 +80,21 @@ static void a_step(void) { answered = saltdelta_step(&lent_board, &settings, len
 static void an_explained_step(void) { answered = saltdelta_step_explained(&lent_board, &settings, lent_sample, 7, &lent_explained); }
 static void a_saving(void) { answered = saltdelta_save(&lent_board, lent_buffer, sizeof lent_buffer); }
 
+typedef void (*call)(void);
+static const call calls[3] = {a_step, an_explained_step, a_saving};
+
 static uint8_t stack[1 << 16];
 static ucontext_t here, there;
 
-static size_t used(void (*call)(void), int pattern) {
+static size_t used(call made, int pattern) {
     size_t untouched = 0;
+    lent_board = saltdelta_fresh();
     memset(stack, pattern, sizeof stack);
     getcontext(&there);
     there.uc_stack.ss_sp = stack;
     there.uc_stack.ss_size = sizeof stack;
     there.uc_link = &here;
-    makecontext(&there, call, 0);
+    makecontext(&there, made, 0);
     swapcontext(&here, &there);
     while (untouched < sizeof stack && stack[untouched] == pattern)
         untouched++;
@@ -98,10 +102,10 @@ static size_t used(void (*call)(void), int pattern) {
 }
 
 /* Bytes below the caller's frame, return address included. */
-static size_t taken(void (*call)(void)) {
+static size_t taken(call made) {
     size_t most = 0;
     for (int pattern = 1; pattern < 256; pattern += 85) {
-        const size_t bytes = used(call, pattern) - used(no_call, pattern);
+        const size_t bytes = used(made, pattern) - used(no_call, pattern);
         most = bytes > most ? bytes : most;
     }
     return most;
@@ -120,6 +124,7 @@ static double timed(kind steps, unsigned *watts) {
 int main(int count, char **words) {
     double best[3] = {0, 0, 0};
     unsigned watts[3] = {0, 0, 0};
+    size_t stacks[3];
     saltdelta_read_sheet(&settings, (const uint8_t *)sheet, sizeof sheet - 1);
     if (count == 3) {
         printf("%u\n", kinds[words[1][0] == 'e' ? 1 : words[1][0] == 'l' ? 2 : 0](strtoul(words[2], NULL, 10)));
@@ -133,8 +138,9 @@ int main(int count, char **words) {
         }
     printf("step %.1f ns, explained step %.1f ns, ratio %.3f; step and saving %.1f ns, ratio %.3f; watts %u, %u and %u\n", best[0], best[1],
            best[1] / best[0], best[2], best[2] / best[0], watts[0], watts[1], watts[2]);
-    lent_board = saltdelta_fresh();
     sample(lent_sample, 1);
-    printf("stack in bytes: step %zu, explained step %zu, saving %zu\n", taken(a_step), taken(an_explained_step), taken(a_saving));
+    for (int i = 0; i < 3; i++)
+        stacks[i] = taken(calls[i]);
+    printf("stack in bytes: step %zu, explained step %zu, saving %zu\n", stacks[0], stacks[1], stacks[2]);
     return watts[0] != watts[1] || watts[0] != watts[2];
 }

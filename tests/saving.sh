@@ -1,7 +1,7 @@
 #!/usr/bin/env bash
-# Saving holds no array of bytes of its own (spec 9.9): a test of the source of everything that it calls (tests/saving/). A pass is an item of the
-# source that saving reaches and that holds none, a wrong copy of the source that is turned down, a right one that is not, or a function in which
-# the compiler has none either.
+# Saving holds no array of bytes of its own (spec 9.9): a test of the source of everything that it calls, names or is given (tests/saving/). A pass is an
+# item of the source that saving reaches and that holds none, a name that it must reach, a wrong copy of the source that is turned down, a right one that
+# is not, the compiler's account of saving, which has none either, or a wrong account that is turned down.
 set -u
 cd "$(dirname "$0")/.." || exit 2
 out=target/saving
@@ -10,4 +10,4 @@ stop() { echo "$1"; echo "0 passed, 1 failed"; exit 1; }
 
 rustc -O --edition 2021 tests/saving/check.rs -o "$out/check" || stop "tests/saving/check.rs does not compile"
 rt mir saltdelta > "$out/mir" 2> "$out/mir.log" || { tail -n 5 "$out/mir.log"; stop "the compiler gives no account of saltdelta"; }
-"$out/check" crates "$out/mir"
+"$out/check" . "$out/mir"

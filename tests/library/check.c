@@ -8,6 +8,7 @@
  * for these. */
 #include <inttypes.h>
 #include <stdio.h>
+#include <stdlib.h>
 #include <string.h>
 
 #include "saltdelta.h"
@@ -690,12 +691,12 @@ static uint32_t step(saltdelta_board *b, const saltdelta_settings *s, const uint
     return number;
 }
 
-/* Savings go to any place of a log. They are counted by how far it is past one that 16 divides, and by the bytes that they left other than 0 and
- * than what stood there. */
-enum { LOG = 128, PLACES = 16 };
+/* Savings go to sixteen places of a log, one after the other. They are counted by how far the place is past one that 16 divides, and by the bytes
+ * that they left other than 0 and than what stood there. */
+enum { PLACES = 16, ROOM = 64, LOG = PLACES + PLACES + ROOM + PLACES };
 static unsigned placed[PLACES], byte_written[SALTDELTA_IMAGE];
 
-static void saved_shown(const uint8_t *buffer) {
+static void count_saving(const uint8_t *buffer) {
     placed[(uintptr_t)buffer % PLACES]++;
     for (int i = 0; i < SALTDELTA_IMAGE; i++)
         byte_written[i] += buffer[i] != 0 && buffer[i] != 0xAA;
@@ -704,15 +705,17 @@ static void saved_shown(const uint8_t *buffer) {
 static uint32_t save(const saltdelta_board *b, size_t length) {
     static unsigned made;
     uint8_t log[LOG], was[LOG];
-    uint8_t *const buffer = log + 16 + made++ % PLACES;
+    uint8_t *const buffer = log + PLACES + made++ % PLACES;
     uint32_t number;
+    if (length > ROOM)
+        exit(2);
     memset(log, 0xAA, sizeof log);
     memset(was, 0xAA, sizeof was);
     number = saltdelta_save(b, buffer, length);
     fprintf(calls, "save %zu\n", length);
     if (number == SALTDELTA_ACCEPTED) {
         fputs("saved ", answers);
-        saved_shown(buffer);
+        count_saving(buffer);
     } else {
         fprintf(answers, "refused %" PRIu32 " ", number);
     }
@@ -1326,7 +1329,7 @@ static void buffers(void) {
     }
 }
 
-/* Any records, saved one behind the other. */
+/* Any records, at all places. */
 static void log_saves(void) {
     anew();
     for (int i = 0; i < 2400; i++) {

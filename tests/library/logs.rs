@@ -59,7 +59,7 @@ impl Log {
     /// The same at a place drawn by lot, with more room than an image needs or just that.
     fn save_somewhere(&mut self, tally: &mut Tally, dice: &mut Dice, board: &Board) -> Option<&[u8]> {
         let room = IMAGE + if dice.one_in(4) { 0 } else { dice.below(100) as usize };
-        let at = dice.below((LOG - room) as u64) as usize;
+        let at = dice.below((LOG - room) as u64 + 1) as usize;
         let number = self.save(tally, board, at, room)?;
         (number == 0).then(|| &self.bytes[at..at + IMAGE])
     }
@@ -73,7 +73,7 @@ fn lives(tally: &mut Tally, dice: &mut Dice, log: &mut Log) -> [u64; 3] {
         let settings = settings_of(&good_pairs(dice));
         let mut report = wild_report(dice);
         let mut grid = Grid::new(dice, 40);
-        let mut last: Option<Vec<u8>> = None;
+        let mut last = log.save_somewhere(tally, dice, &board).map(<[u8]>::to_vec);
         for _ in 0..120 {
             let s = if dice.one_in(8) { sample(dice, true) } else { grid.next(dice) };
             let number = compare_step(tally, &mut board, &settings, &s, &mut report);
@@ -81,7 +81,7 @@ fn lives(tally: &mut Tally, dice: &mut Dice, log: &mut Log) -> [u64; 3] {
             seen[0] += u64::from(number == 0 && image.is_some());
             seen[1] += u64::from(number != 0 && image.is_some());
             seen[2] += u64::from(number != 0 && image.is_some() && image == last);
-            tally.call(number == 0 || last.is_none() || image == last, || format!("a refused step changes the image of {board:?}"));
+            tally.call(number == 0 || image == last, || format!("a refused step changes the image of {board:?}"));
             last = image;
         }
         tally.case();

@@ -4,7 +4,7 @@
 use super::reach::Why::{self, Array, ConstantOfBytes, NotFollowed};
 use std::collections::BTreeMap;
 
-/// A file from crates/, and a text that stands there once.
+/// A file, and a text that stands there once.
 type Place = (&'static str, &'static str);
 
 pub enum Change {
@@ -51,8 +51,11 @@ const fn right(name: &'static str, changes: &'static [Change]) -> Copy {
     Copy { name, changes, found: None }
 }
 
-const IMAGE: &str = "image/src/lib.rt";
-const RULES: &str = "rules/src/lib.rt";
+const IMAGE: &str = "crates/image/src/lib.rt";
+const RULES: &str = "crates/rules/src/lib.rt";
+
+/// A file that is not there.
+const ROWS: &str = "crates/image/src/rows.rt";
 
 // ---- what is changed
 
@@ -68,6 +71,12 @@ const HERE: Place = (IMAGE, "// One field at a place,");
 const THERE: Place = (RULES, "// A report. Its nine bits");
 const USES: Place = (IMAGE, "use rules::IMAGE_LENGTH;");
 const COUNTERS: Place = (RULES, "    pub counters: [u32; 9],");
+const BUFFERS: Place = ("crates/buffers/src/lib.rt", "//");
+
+/// Two functions whose contracts have a bracket each that is none.
+const COMMENTS: &str = "fn low(n: u32) -> u8\n    ensures { ⌜ n ⌝ -- {\n    }\n{ [n as u8][0] }\nfn beside()\n    ensures { ⌜ n ⌝ -- }\n    }\n{ }";
+const QUOTES: &str = "fn low(n: u32) -> u8\n    ensures { ⌜ \"{\" ⌝ }\n{ [n as u8][0] }\nfn beside()\n    ensures { ⌜ \"}\" ⌝ }\n{ }";
+const LOW: &str = "pub fn low(n: u32) -> u8 { [n as u8][0] }";
 const BOARD_FRONT: &str = "impl Board { pub fn front(self) -> u8 { let bytes = [self.status]; bytes[0] } }";
 
 // ---- the copies
@@ -90,8 +99,21 @@ pub const WRONG: &[Copy] = &[
     wrong("a result", Array, "image::twos_complement", &[Put((IMAGE, "(v: i16) -> u16"), "(v: i16) -> [u8; 2]")]),
     wrong("the counters as a value", Array, "image::put_image", &[Put(STATUS, "0;\n    let numbers = b.counters")]),
     wrong("the counters by a pattern", Array, "image::put_image", &[Put(STATUS, "0;\n    let Board { counters, .. } = b")]),
-    wrong("in the C face", Array, "saltdelta::save_number", &[Put(("saltdelta/src/lib.rt", "image::save(b, out)"), "image::save(b, &mut [0; 49])")]),
+    wrong(
+        "in the C face",
+        Array,
+        "saltdelta::save_number",
+        &[Put(("crates/saltdelta/src/lib.rt", "image::save(b, out)"), "image::save(b, &mut [0; 49])")],
+    ),
     wrong("in a refusal's number", Array, "rules::refusal_number", &[Put((RULES, "match cause {"), "let numbers = [1, 2]; match cause {")]),
+    wrong("a local with a type's name", Array, "image::put_image", &[Put(STATUS, "0;\n    let u8 = b.status;\n    put_field(&mut [u8], 0, 1, 0)")]),
+    wrong("a local with an alias's name", Array, "image::put_image", &[Add(HERE, "type low = u8;"), Put(STATUS, "put_field(&mut [low], 0, 1, 0)")]),
+    wrong("behind quotes", Array, "image::put_field", &[Put(BYTE, "b'\\\\' + b'\"' + b'\\'' + [0u8][0] + b'\"';")]),
+    wrong("behind a range", Array, "image::put_field", &[Put(BYTE, "0; for i in 0..=[1usize, 2][1] {}")]),
+    wrong("an attribute in a function", NotFollowed, "image::put_image", &[Put(STATUS, "0;\n    #[cold] { at = 0; }")]),
+    wrong("a counter that is written", Array, "image::put_image", &[Put(STATUS, "0;\n    let mut row = b;\n    row.counters[0] = 1")]),
+    wrong("a counter that is lent", Array, "image::put_image", &[Put(STATUS, "0;\n    let mut row = b;\n    low(&mut row.counters[0])")]),
+    wrong("a part of the counters", Array, "image::put_image", &[Put(STATUS, "low(b.counters[0..4])")]),
     // in a struct, a variant, the record
     wrong("in a struct", Array, "image::Line", &[Add(HERE, "struct Line { bytes: [u8; 49] }"), Put(VALUE, "value: Line)")]),
     wrong("in a local's struct", Array, "image::Line", &[Add(HERE, "struct Line { bytes: [u8; 1] }"), Put(BYTE, "0;\n let line = Line { bytes };")]),
@@ -116,6 +138,22 @@ pub const WRONG: &[Copy] = &[
             Put((RULES, "Refused(Refusal),\n}\n\n// A step's"), "Refused(Refusal), Partly(u32, Bytes), }\n// A step's"),
         ],
     ),
+    wrong("behind a `pub` of a crate", Array, "image::Line", &[Add(HERE, "struct Line(pub(crate) [u8; 49]);"), Put(VALUE, "value: Line)")]),
+    wrong("behind an attribute", Array, "image::Line", &[Add(HERE, "enum Line { Short, Long(#[doc] [u8; 4]) }"), Put(VALUE, "value: Line)")]),
+    wrong(
+        "a part that is lent of an array",
+        Array,
+        "image::Line",
+        &[Add(HERE, "struct Line<'a> { bytes: &'a [[u8; 2]] }"), Put(VALUE, "value: Line)")],
+    ),
+    wrong("a part that is not lent", Array, "image::put_field", &[Put(VALUE, "value: [u8])")]),
+    wrong("counters that are not the record's", Array, "image::Line", &[Add(HERE, "struct Line { counters: [u32; 9] }"), Put(VALUE, "value: Line)")]),
+    wrong(
+        "in a type that is named for its method",
+        Array,
+        "image::Line",
+        &[Add(HERE, "struct Line { bytes: [u8; 4] } impl Line { fn low(n: u32) -> u8 { 0 } }"), Put(BYTE, "Line::low(rest);")],
+    ),
     wrong("in the record", Array, "rules::Board", &[Add(COUNTERS, "    pub spare: [u8; 3],")]),
     wrong("the record's counters as bytes", Array, "rules::Board", &[Put(COUNTERS, "    pub counters: [u8; 36],")]),
     // by a name
@@ -135,7 +173,7 @@ pub const WRONG: &[Copy] = &[
         "a name that a crate hands on",
         Array,
         "rules::Bytes",
-        &[Add(THERE, "pub type Bytes = [u8; 4];"), Add(("buffers/src/lib.rt", "//"), "pub use rules::Bytes;"), Put(VALUE, "value: buffers::Bytes)")],
+        &[Add(THERE, "pub type Bytes = [u8; 4];"), Add(BUFFERS, "pub use rules::Bytes;"), Put(VALUE, "value: buffers::Bytes)")],
     ),
     wrong("a constant", Array, "image::BYTES", &[Add(HERE, "const BYTES: [u8; 4] = [0; 4];"), Put(BYTE, "BYTES[left];")]),
     wrong(
@@ -144,8 +182,51 @@ pub const WRONG: &[Copy] = &[
         "rules::BYTES",
         &[Add(THERE, "pub const BYTES: [u8; 4] = [0; 4];"), Add(HERE, "const LOW: u8 = rules::BYTES[0];"), Put(BYTE, "LOW;")],
     ),
+    wrong(
+        "a constant by one of two uses",
+        Array,
+        "buffers::table",
+        &[
+            Add(BUFFERS, "pub type word = u32; pub const table: [u8; 4] = [4; 4];"),
+            Add(USES, "use buffers::word as table; use buffers::table;"),
+            Add(HERE, "const FOUR: u8 = table[0];"),
+            Put(BYTE, "FOUR;"),
+        ],
+    ),
+    wrong(
+        "a constant of a type",
+        Array,
+        "rules::Board::BYTES",
+        &[Add(THERE, "impl Board { pub const BYTES: [u8; 2] = [0; 2]; }"), Put(BYTE, "Board::BYTES[0];")],
+    ),
+    wrong(
+        "a constant of its own type",
+        Array,
+        "rules::Board::BYTES",
+        &[
+            Add(THERE, "impl Board { pub const BYTES: [u8; 2] = [0; 2]; pub fn low(self) -> u8 { Self::BYTES[0] } }"),
+            Put(STATUS, "put_field(out, 0, 1, b.low() as u32)"),
+        ],
+    ),
+    wrong(
+        "behind a ghost use",
+        Array,
+        "image::rows::table",
+        &[
+            Add(HERE, "mod rows;"),
+            Add(USES, "use crate::rows::table;"),
+            Make(ROWS, "ghost use mathlib.Core.Path.{_//_};\npub const table: [u8; 4] = [0; 4];"),
+            Put(BYTE, "table[left];"),
+        ],
+    ),
     wrong("a text as a constant", ConstantOfBytes, "image::BYTES", &[Add(HERE, "const BYTES: &[u8] = b\"[]\";"), Put(BYTE, "BYTES[left];")]),
     wrong("a text in the code", ConstantOfBytes, "image::put_field", &[Put(BYTE, "b\"0\\\"1\"[left];")]),
+    wrong(
+        "behind a raw text",
+        Array,
+        "image::low",
+        &[Add(HERE, "fn beside() -> usize { r\"\\\".len() } fn low(n: u32) -> u8 { [0][0] } const T: &str = \"\";"), Put(BYTE, "low(rest);")],
+    ),
     wrong("a raw text in the code", ConstantOfBytes, "image::put_field", &[Put(BYTE, "br#\"\"01\"\"#[left];")]),
     // by a call
     wrong("a function that makes them", Array, "image::four", &[Add(HERE, "fn four(n: u32) -> [u8; 4] { [0; 4] }"), Put(BYTE, "four(rest)[left];")]),
@@ -163,7 +244,7 @@ pub const WRONG: &[Copy] = &[
         "in a module below",
         Array,
         "image::rows::low",
-        &[Add(HERE, "mod rows;"), Make("image/src/rows.rt", "pub fn low(n: u32) -> u8 { [n as u8][0] }"), Put(BYTE, "rows::low(rest);")],
+        &[Add(HERE, "mod rows;"), Make(ROWS, "pub fn low(n: u32) -> u8 { [n as u8][0] }"), Put(BYTE, "rows::low(rest);")],
     ),
     wrong(
         "in a module of the file",
@@ -173,20 +254,58 @@ pub const WRONG: &[Copy] = &[
     ),
     wrong("a method of the record", Array, "rules::Board::front", &[Add(THERE, BOARD_FRONT), Put(STATUS, "put_field(out, 0, 1, b.front())")]),
     wrong("a method by its type", Array, "rules::Board::front", &[Add(THERE, BOARD_FRONT), Put(STATUS, "put_field(out, 0, 1, Board::front(b))")]),
+    wrong(
+        "with a crate's name beside it",
+        Array,
+        "buffers::low",
+        &[Add(BUFFERS, LOW), Add(HERE, "const buffers: u32 = 1;"), Put(BYTE, "buffers::low(rest);")],
+    ),
+    wrong(
+        "a module's, by a use",
+        Array,
+        "rules::deep::low",
+        &[Add(THERE, "pub mod deep { pub fn low(n: u32) -> u8 { [0][0] } }"), Add(USES, "use rules::deep;"), Put(BYTE, "deep::low(rest);")],
+    ),
+    wrong("a crate's other name", Array, "rules::low", &[Add(THERE, LOW), Add(USES, "use rules::{self as r};"), Put(BYTE, "r::low(rest);")]),
+    wrong("a use in a function", NotFollowed, "image::put_field", &[Add(BUFFERS, LOW), Put(BYTE, "{ use buffers::low; low(rest) };")]),
+    wrong(
+        "behind a bare `::`",
+        NotFollowed,
+        "image::put_field",
+        &[Add(BUFFERS, "pub fn low(n: u32) -> u8 { 0 }"), Put(BYTE, "::buffers::low(rest);")],
+    ),
+    wrong(
+        "behind a type in brackets",
+        NotFollowed,
+        "image::put_image",
+        &[Add(THERE, BOARD_FRONT), Put(STATUS, "put_field(out, 0, 1, <Board>::front(b))")],
+    ),
     // what is not in the source
     wrong("a method of the language", NotFollowed, "image::put_field", &[Put(BYTE, "rest.to_be_bytes()[left];")]),
     wrong("another library's function", NotFollowed, "image::put_field", &[Add(USES, "use bytes::low;"), Put(BYTE, "low(rest);")]),
     wrong("another library's, by its path", NotFollowed, "image::put_field", &[Put(BYTE, "bytes::low(rest);")]),
+    wrong("another library's constant", NotFollowed, "image", &[Add(USES, "use bytes::table;"), Put(BYTE, "table[left];")]),
+    wrong("another library's, as a type's name", NotFollowed, "image::put_field", &[Add(USES, "use bytes::low as u8;"), Put(BYTE, "u8(rest);")]),
+    wrong("another library's constant, by its path", NotFollowed, "image::put_field", &[Put(BYTE, "bytes::table[left];")]),
+    wrong(
+        "a module of another crate, without a use",
+        NotFollowed,
+        "image::put_field",
+        &[Add(THERE, "pub mod deep { pub fn low(n: u32) -> u8 { 0 } }"), Put(BYTE, "deep::low(rest);")],
+    ),
     wrong("another library's type", NotFollowed, "image::put_field", &[Put(VALUE, "value: Bytes)")]),
     wrong("a macro", NotFollowed, "image::put_field", &[Put(BYTE, "low!(rest);")]),
     wrong("every name of a crate", NotFollowed, "image", &[Add(USES, "use rules::*;")]),
     wrong("what cannot be read", NotFollowed, "image", &[Add(HERE, "trait Low {}")]),
+    wrong("a comment in a contract", NotFollowed, "image", &[Add(HERE, COMMENTS), Put(BYTE, "low(rest);")]),
+    wrong("a quote in a contract", NotFollowed, "image", &[Add(HERE, QUOTES), Put(BYTE, "low(rest);")]),
+    wrong("a contract in a function", NotFollowed, "image::put_field", &[Put(BYTE, "0; if ensures { let bytes = [0; 4]; }")]),
 ];
 
 pub const RIGHT: &[Copy] = &[
     right("the same", &[]),
     right("arrays in comments", &[Put(BYTE, "(rest % 256) as u8; // [0; 4] /*\n        /* [u8; 4] /* b\"0\" */ [1, 2] */")]),
-    right("brackets in a contract", &[Put((IMAGE, "⌜ r ≡ at + 36 ⌝"), "⌜ r ≡ [u8; 4] { [0, 1] } \"0\" ⌝")]),
+    right("brackets in a contract", &[Put((IMAGE, "⌜ r ≡ at + 36 ⌝"), "⌜ r ≡ [u8; 4] { [0, 1] } ⌝")]),
     right("a function that saving does not call", &[Add(HERE, "fn beside() -> [u8; 4] { [0; 4] }")]),
     right("what saving does not name", &[Add(HERE, "struct Line { bytes: [u8; 49] } const BYTES: [u8; 2] = [0; 2];")]),
     right("bytes in the report", &[Put((RULES, "pub bits: u16,"), "pub bits: [u8; 2],")]),
@@ -197,7 +316,36 @@ pub const RIGHT: &[Copy] = &[
     right("single bytes", &[Put(BYTE, "b'[' + b'\\'' + '\"' as u8;")]),
     right(
         "a function of a module below",
-        &[Add(HERE, "mod rows;"), Make("image/src/rows.rt", "pub fn low(n: u32) -> u8 { (n % 256) as u8 }"), Put(BYTE, "crate::rows::low(rest);")],
+        &[Add(HERE, "mod rows;"), Make(ROWS, "pub fn low(n: u32) -> u8 { (n % 256) as u8 }"), Put(BYTE, "crate::rows::low(rest);")],
+    ),
+    right(
+        "a part by an alias, and one that a function gives",
+        &[Add(HERE, "type Byte = u8; fn part(bytes: &[Byte]) -> &[u8] { bytes }"), Put(BYTE, "part(out)[0];")],
+    ),
+    right(
+        "a field with a function's name",
+        &[Add(HERE, "fn four() -> [u8; 4] { [0; 4] } struct Row { #[doc] four: u32 }"), Put(VALUE, "value: Row)")],
+    ),
+    right(
+        "a module's function, by a use",
+        &[Add(THERE, "pub mod deep { pub fn low(n: u32) -> u8 { 0 } }"), Add(USES, "use rules::deep;"), Put(BYTE, "deep::low(rest);")],
+    ),
+    right("numbers of the language", &[Put(BYTE, "(rest % u32::MAX) as u8;")]),
+    right(
+        "paths",
+        &[
+            Add(THERE, "pub fn made(n: u32) -> u8 { 0 }"),
+            Add(USES, "use rules::{self as r, Limit};"),
+            Add(HERE, "fn low(n: u32) -> u8 { r::made(n) } mod rows { pub mod more { pub fn low(n: u32) -> u8 { super::super::low(n) } } }"),
+            Put(BYTE, "rows::more::low(rest);"),
+        ],
+    ),
+    right(
+        "methods",
+        &[
+            Add(THERE, "impl Board { pub fn first(self) -> u8 { Self::of(self) } pub fn of(b: Self) -> u8 { b.status } }"),
+            Put(STATUS, "b.first() as usize"),
+        ],
     ),
     right("attributes", &[Add(HERE, "#[inline(never)]\nfn low(n: u32) -> u8 { (n % 256) as u8 }"), Put(BYTE, "low(rest);")]),
 ];

@@ -1,4 +1,5 @@
-//! The compiler's account of the functions, as `rt mir` prints it: their locals with their types, and their calls.
+//! The compiler's account of the functions, as `rt mir` prints it: their locals with their types, and their calls. A constant that the compiler puts in as a
+//! number does not show there.
 
 use std::collections::{BTreeMap, BTreeSet};
 
@@ -40,3 +41,15 @@ impl Program {
         !front.contains("tyArray") && parts.all(|part| !part.replacen(COUNTERS, "", 1).contains("tyArray"))
     }
 }
+
+/// Wrong accounts: a text of the right one, and the text in its place.
+pub const WRONG: [(&str, &str, &str); 4] = [
+    ("a local array", "(fn-def \"image::put_field\" ", "(fn-def \"image::put_field\" (local (tyArray (tyInt 8) (lenLit 1)) valueLocal) "),
+    ("an array beside the record's", COUNTERS, "(tyArray (tyInt 32) (lenLit 9)) (tyArray (tyInt 8) (lenLit 1))"),
+    (
+        "a call that the source does not have",
+        "(fn-def \"image::put_field\" ",
+        "(fn-def \"image::bytes\") (fn-def \"image::put_field\" (fnRef \"image::bytes\") ",
+    ),
+    ("no account of a function", "(fn-def \"image::put_field\" ", "(fn-def \"image::other\" "),
+];

@@ -1,21 +1,24 @@
 //! What saving calls, names and is given, and what is found there that it must not hold.
 //!
-//! Every name in a reached item is followed, to functions, types and constants. What cannot be followed is a finding too: a name that the source
-//! does not have, a method of the language but `len`, a macro, a `use` of every name. So nothing is passed over.
+//! A name leads to every item of that name, of its crate and of those below it: which of them a path, a `use` or a rule of scopes would choose is not
+//! asked. What leads nowhere is a finding too, unless it can only be a local, a parameter or a field: a call, a type, a path, a `use`, a method of the
+//! language other than `len`.
 
 use super::source::*;
 use std::collections::{BTreeMap, BTreeSet};
 
-/// The one array that may be reached: the counters of the record that is saved, which are numbers and no bytes. A function may take one of them, and
-/// not all of them as a value.
+/// The one array that may be reached: the counters of the record that is saved, which are numbers and no bytes. A function may read one of them.
 const RECORD: &str = "rules::Board";
 const COUNTERS: &str = "counters";
 const COUNTERS_TYPE: &str = "counters : [ u32 ; 9 ]";
 const PRIMITIVES: [&str; 13] = ["u8", "u16", "u32", "u64", "usize", "i8", "i16", "i32", "i64", "isize", "bool", "f32", "f64"];
-/// Methods of the language that make nothing but a number.
+/// What of the language makes nothing but a number.
 const METHODS: [&str; 1] = ["len"];
+const CONSTANTS: [&str; 2] = ["MAX", "MIN"];
+/// Words that stand in no body of a function that can be followed.
+const OUTSIDE: [&str; 7] = ["use", "mod", "ghost", "requires", "ensures", "impl", "trait"];
 
-#[derive(Clone, Copy, Debug, PartialEq, Eq, PartialOrd, Ord)]
+#[derive(Clone, Copy, Debug, PartialEq, Eq)]
 pub enum Why {
     Array,
     ConstantOfBytes,
@@ -25,7 +28,7 @@ pub enum Why {
 #[derive(Clone, Debug)]
 pub struct Finding {
     pub why: Why,
-    /// The path of the item that has it.
+    /// The path of the item that has it, or of the module.
     pub item: String,
     pub said: String,
 }
@@ -37,75 +40,82 @@ pub struct Reached {
     pub findings: Vec<Finding>,
 }
 
-/// What a path leads to.
-enum Led {
-    Items(Vec<usize>),
-    Module(Vec<String>),
-    Nowhere,
-}
+// ---- names
 
 struct Names<'a> {
     source: &'a Source,
-    by_module: BTreeMap<(&'a [String], &'a str), Vec<usize>>,
-    modules: BTreeSet<&'a [String]>,
+    by_name: BTreeMap<&'a str, Vec<usize>>,
+    /// Names that a `use` gives to others.
+    given: BTreeMap<&'a str, BTreeSet<&'a str>>,
+    /// The modules by their crates and last names; a crate is a module of itself.
+    modules: BTreeSet<(&'a str, &'a str)>,
 }
 
 impl<'a> Names<'a> {
     fn of(source: &'a Source) -> Names<'a> {
-        let mut by_module: BTreeMap<(&[String], &str), Vec<usize>> = BTreeMap::new();
-        let mut modules: BTreeSet<&[String]> = source.uses.keys().map(Vec::as_slice).collect();
+        let mut names = Names { source, by_name: BTreeMap::new(), given: BTreeMap::new(), modules: BTreeSet::new() };
         for (i, item) in source.items.iter().enumerate() {
-            modules.extend((1..=item.module.len()).map(|n| &item.module[..n]));
-            if item.method_of.is_none() {
-                by_module.entry((&item.module, &item.name)).or_default().push(i);
+            names.by_name.entry(&item.name).or_default().push(i);
+        }
+        for module in source.items.iter().map(|i| &i.module).chain(source.uses.keys()) {
+            names.modules.extend(module.iter().map(|part| (module[0].as_str(), part.as_str())));
+        }
+        for u in source.uses.values().flatten() {
+            names.given.entry(&u.name).or_default().extend(u.path.iter().rfind(|part| *part != "self").map(String::as_str));
+        }
+        names
+    }
+
+    /// A name, and those that it is given to.
+    fn meant(&self, name: &str) -> BTreeSet<String> {
+        let mut all = BTreeSet::from([name.to_string()]);
+        loop {
+            let more: BTreeSet<String> = all.iter().filter_map(|n| self.given.get(n.as_str())).flatten().map(|n| n.to_string()).collect();
+            if more.is_subset(&all) {
+                return all;
             }
-        }
-        Names { source, by_module, modules }
-    }
-
-    /// A name in a module: an item there, a module below it, or what a `use` brings.
-    fn name_in(&self, module: &[String], name: &str, depth: usize) -> Led {
-        if let Some(items) = self.by_module.get(&(module, name)) {
-            return Led::Items(items.clone());
-        }
-        let below = [module, &[name.to_string()]].concat();
-        if self.modules.contains(below.as_slice()) {
-            return Led::Module(below);
-        }
-        let brought = self.source.uses.get(module).and_then(|uses| uses.iter().find(|u| u.name == name));
-        match brought {
-            Some(u) if depth < 8 && u.path != [name] => self.path(module, &u.path, depth + 1),
-            _ => Led::Nowhere,
+            all.extend(more);
         }
     }
 
-    /// A path as it stands in a module. Behind a type stands a variant of it, or a method.
-    fn path(&self, module: &[String], path: &[String], depth: usize) -> Led {
-        let mut led = match path[0].as_str() {
-            "crate" => Led::Module(module[..1].to_vec()),
-            "self" => Led::Module(module.to_vec()),
-            "super" => Led::Module(module[..module.len() - 1].to_vec()),
-            name => match self.name_in(module, name, depth) {
-                Led::Nowhere if self.modules.contains([name.to_string()].as_slice()) => Led::Module(vec![name.to_string()]),
-                led => led,
-            },
-        };
-        for name in &path[1..] {
-            led = match led {
-                Led::Module(m) => self.name_in(&m, name, depth),
-                Led::Items(mut items) => {
-                    items.extend(self.methods(name));
-                    Led::Items(items)
-                }
-                Led::Nowhere => Led::Nowhere,
-            };
-        }
-        led
+    /// The items of a name that a crate can have.
+    fn items(&self, krate: &str, name: &str) -> Vec<usize> {
+        let can = |i: &usize| self.source.below.get(krate).is_some_and(|below| below.contains(&self.source.items[*i].module[0]));
+        self.meant(name).iter().filter_map(|n| self.by_name.get(n.as_str())).flatten().copied().filter(can).collect()
     }
 
-    /// The methods of a name, of whichever type.
-    fn methods(&self, name: &str) -> Vec<usize> {
-        (0..self.source.items.len()).filter(|&i| self.source.items[i].method_of.is_some() && self.source.items[i].name == name).collect()
+    fn types(&self, krate: &str, name: &str) -> Vec<usize> {
+        self.items(krate, name).into_iter().filter(|&i| matches!(self.source.items[i].what, What::Struct | What::Enum | What::Alias)).collect()
+    }
+
+    /// Can a path in this module begin so? With a crate, a module of this one, one that a `use` brings, or a type.
+    fn begins(&self, module: &[String], name: &str) -> bool {
+        let krate = &module[0];
+        let brought = self.source.uses.get(module).is_some_and(|uses| uses.iter().any(|u| u.name == name));
+        let a_module = |n: &str| self.modules.iter().any(|m| m.1 == n && (brought || m.0 == n || m.0 == krate));
+        ["crate", "self", "super"].contains(&name) || self.meant(name).iter().any(|n| a_module(n)) || !self.types(krate, name).is_empty()
+    }
+
+    /// Does a path in this module lead to an item, or to a variant of an enum?
+    fn leads(&self, module: &[String], path: &[String]) -> bool {
+        let krate = &module[0];
+        let last = &path[path.len() - 1];
+        let variant = |i: &usize| self.source.items[*i].what == What::Enum && self.source.items[*i].tokens.iter().any(|t| t.is(last));
+        match path {
+            [name] => !self.items(krate, name).is_empty(),
+            [first, .., of, _] | [first @ of, _] => {
+                let constant = PRIMITIVES.contains(&first.as_str()) && path.len() == 2 && CONSTANTS.contains(&last.as_str());
+                constant || (self.begins(module, first) && (!self.items(krate, last).is_empty() || self.types(krate, of).iter().any(variant)))
+            }
+            [] => false,
+        }
+    }
+
+    /// Does a `use` bring what is in the source?
+    fn brings(&self, module: &[String], path: &[String]) -> bool {
+        let last = path.iter().rfind(|part| *part != "self").map_or("", String::as_str);
+        let a_module = self.modules.iter().any(|m| m.1 == last);
+        path.first().is_some_and(|first| self.begins(module, first)) && (a_module || !self.items(&module[0], last).is_empty())
     }
 }
 
@@ -113,15 +123,34 @@ fn text(tokens: &[Token]) -> String {
     tokens.iter().map(|t| t.text.as_str()).collect::<Vec<_>>().join(" ")
 }
 
+// ---- an item
+
 /// What an item holds or names: the items that it leads to, and what is found in it.
 struct Look<'a> {
     names: &'a Names<'a>,
     item: &'a Item,
+    /// Where the body of a function begins. Before it stand types, and so they do in other items: nothing is indexed there but arrays.
+    body: usize,
     leads: Vec<usize>,
     findings: Vec<Finding>,
 }
 
 impl<'a> Look<'a> {
+    fn at(names: &'a Names<'a>, item: &'a Item) -> Look<'a> {
+        let begins = item.tokens.iter().position(|t| item.what == What::Function && t.is("{"));
+        let body = begins.unwrap_or(item.tokens.len());
+        Look { names, item, body, leads: Vec::new(), findings: Vec::new() }
+    }
+
+    fn krate(&self) -> &'a str {
+        &self.item.module[0]
+    }
+
+    /// The token so many places before one, if there is one.
+    fn before(&self, at: usize, places: usize) -> Option<&'a Token> {
+        at.checked_sub(places).map(|i| &self.item.tokens[i])
+    }
+
     /// Notes a finding; gives the place after it.
     fn find(&mut self, why: Why, at: usize, said: String) -> usize {
         let line = self.item.tokens[at].line;
@@ -129,41 +158,45 @@ impl<'a> Look<'a> {
         at + 1
     }
 
-    /// Is the bracket at `at` that of an index, and not of a type or a value?
+    /// Is the bracket at `at` that of an index? Only in a body, behind a value.
     fn indexes(&self, at: usize) -> bool {
-        let Some(before) = at.checked_sub(1).map(|i| &self.item.tokens[i]) else { return false };
-        before.named() || matches!(before.kind, Kind::Number | Kind::Text) || [")", "]", "?", "self"].iter().any(|m| before.is(m))
+        at > self.body && self.before(at, 1).is_some_and(|t| t.named() || t.is(")"))
     }
 
-    /// A part of a type that is lent, `&[u8]`: one name of a type behind a reference.
+    /// Is it the bracket of a part that is lent, `&[u8]`? Only among types, with one type in it, behind a reference.
     fn lent_part(&self, at: usize, inside: &[Token]) -> bool {
-        let lent = at > 0 && (["&", "&&", "mut"].iter().any(|m| self.item.tokens[at - 1].is(m)) || self.item.tokens[at - 1].kind == Kind::Lifetime);
-        let path: Vec<String> = inside.iter().filter(|t| !t.is("::")).map(|t| t.text.clone()).collect();
-        let a_type = match path.as_slice() {
-            [one] if PRIMITIVES.contains(&one.as_str()) => true,
-            [] => false,
-            path => match self.names.path(&self.item.module, path, 0) {
-                Led::Items(items) => items.iter().all(|&i| matches!(self.names.source.items[i].what, What::Struct | What::Enum | What::Alias)),
-                _ => false,
-            },
+        let lent = self.before(at, 1).is_some_and(|t| t.is("&") || t.is("&&") || t.is("mut") || t.kind == Kind::Lifetime);
+        let a_type = match inside {
+            [.., last] if inside.iter().all(|t| t.kind == Kind::Word || t.is("::")) => {
+                PRIMITIVES.contains(&last.text.as_str()) || !self.names.types(self.krate(), &last.text).is_empty()
+            }
+            _ => false,
         };
-        lent && a_type
+        at < self.body && lent && a_type
     }
 
-    /// A bracket of an array, and of no index, attribute or part that is lent; gives the place after it.
+    /// A bracket; what is no index, no part that is lent and not the record's counters is an array. Gives the place after it.
     fn bracket(&mut self, at: usize) -> usize {
         let tokens = &self.item.tokens;
         let end = closed(tokens, at);
-        let field = text(&tokens[at.saturating_sub(2)..end]);
-        let passed = self.indexes(at)
-            || (at > 0 && tokens[at - 1].is("#"))
-            || self.lent_part(at, &tokens[at + 1..end - 1])
-            || (self.item.path() == RECORD && field == COUNTERS_TYPE);
-        if !passed {
+        let counters = self.item.path() == RECORD && text(&tokens[at.saturating_sub(2)..end]) == COUNTERS_TYPE;
+        if !self.indexes(at) && !self.lent_part(at, &tokens[at + 1..end - 1]) && !counters {
             let said = format!("an array: {}", text(&tokens[at..end]));
             self.find(Why::Array, at, said);
         }
         at + 1
+    }
+
+    /// The record's counters in a function: one of them, and read, `b.counters[i]` before what ends or converts a value.
+    fn counters(&mut self, at: usize) {
+        let tokens = &self.item.tokens;
+        let end = closed(tokens, at + 1);
+        let one = tokens.get(at + 1).is_some_and(|t| t.is("[")) && !tokens[at + 1..end].iter().any(|t| t.is(".."));
+        let read = tokens.get(end).is_some_and(|t| [")", ",", ";", "as"].iter().any(|m| t.is(m)));
+        let lent = self.before(at, 3).is_some_and(|t| t.is("&") || t.is("mut"));
+        if !(one && read && !lent) {
+            self.find(Why::Array, at, "an array: the record's counters, and not one that is read".to_string());
+        }
     }
 
     /// The path that begins at `at`; gives the place after it.
@@ -173,18 +206,16 @@ impl<'a> Look<'a> {
         while tokens.get(end).is_some_and(|t| t.is("::")) && tokens.get(end + 1).is_some_and(|t| t.kind == Kind::Word) {
             end += 2;
         }
-        let path: Vec<String> = tokens[at..end].iter().filter(|t| !t.is("::")).map(|t| t.text.clone()).collect();
+        let own_type = |name: &str| self.item.method_of.clone().filter(|_| name == "Self");
+        let path: Vec<String> = tokens[at..end].iter().filter(|t| !t.is("::")).map(|t| own_type(&t.text).unwrap_or(t.text.clone())).collect();
         let called = tokens.get(end).is_some_and(|t| t.is("(") || t.is("!") || t.is("::"));
-        let declared = at > 0 && tokens[at - 1].is("fn");
         let capital = path[0].starts_with(char::is_uppercase);
-        match self.names.path(&self.item.module, &path, 0) {
-            Led::Items(items) => self.leads.extend(items),
-            _ if declared || (path.len() == 1 && PRIMITIVES.contains(&path[0].as_str())) => {}
-            _ if called || capital || path.len() > 1 => {
-                self.find(Why::NotFollowed, at, format!("not followed: {}", path.join("::")));
-            }
-            // a local, a parameter, a field
-            _ => {}
+        let front = self.before(at, 1).is_some_and(|t| t.is("::"));
+        let led = self.names.leads(&self.item.module, &path) && !front;
+        self.leads.extend(path.iter().flat_map(|name| self.names.items(&self.item.module[0], name)));
+        // a single small name that is not called may be a local, a parameter, a field
+        if !led && (called || capital || front || path.len() > 1) {
+            self.find(Why::NotFollowed, at, format!("not followed: {}", path.join("::")));
         }
         end
     }
@@ -194,7 +225,7 @@ impl<'a> Look<'a> {
         let tokens = &self.item.tokens;
         let name = tokens[at].text.clone();
         if tokens.get(at + 1).is_some_and(|t| t.is("(") || t.is("::")) {
-            let methods = self.names.methods(&name);
+            let methods = self.names.items(self.krate(), &name);
             if methods.is_empty() && !METHODS.contains(&name.as_str()) {
                 self.find(Why::NotFollowed, at, format!("not followed: the method {name}"));
             }
@@ -205,34 +236,44 @@ impl<'a> Look<'a> {
 
     /// Is the name at `at` the item's own: a field of a struct, or a variant of an enum, `depth` brackets inside it?
     fn own(&self, at: usize, depth: usize) -> bool {
-        let tokens = &self.item.tokens;
-        let field = tokens.get(at + 1).is_some_and(|t| t.is(":"));
-        let variant = self.item.what == What::Enum && depth == 1 && ["{", ",", "]"].iter().any(|m| tokens[at - 1].is(m));
+        let field = self.item.tokens.get(at + 1).is_some_and(|t| t.is(":"));
+        let variant = self.item.what == What::Enum && depth == 1 && self.before(at, 1).is_some_and(|t| t.is("{") || t.is(",") || t.is("]"));
         matches!(self.item.what, What::Struct | What::Enum) && (field || variant)
     }
 
     fn whole(&mut self) {
-        let item: &'a Item = self.item;
-        let tokens = &item.tokens;
-        let (mut at, mut depth) = (0, 0);
+        let tokens = &self.item.tokens;
+        let (mut at, mut depth) = (1, 0);
         while at < tokens.len() {
             let t = &tokens[at];
             depth += usize::from(["(", "[", "{"].iter().any(|m| t.is(m)));
             depth -= usize::from([")", "]", "}"].iter().any(|m| t.is(m)));
-            let next = tokens.get(at + 1);
-            let leads = t.named() || (["crate", "super", "self"].iter().any(|w| t.is(w)) && next.is_some_and(|n| n.is("::")));
-            if self.item.what == What::Function && t.is(COUNTERS) && !(at > 0 && tokens[at - 1].is(".") && next.is_some_and(|n| n.is("["))) {
-                self.find(Why::Array, at, "an array: the record's counters as a value".to_string());
+            if self.item.what == What::Function && t.is(COUNTERS) {
+                self.counters(at);
             }
+            let path = ["crate", "super", "self"].iter().any(|w| t.is(w)) && tokens.get(at + 1).is_some_and(|n| n.is("::"));
             at = match t.kind {
-                Kind::Word if at > 0 && tokens[at - 1].is(".") => self.member(at),
-                Kind::Word if leads && !self.own(at, depth) => self.name(at),
-                Kind::Text => self.find(Why::ConstantOfBytes, at, format!("a constant of bytes: {}", t.text)),
+                Kind::Mark if t.is("#") && self.item.what != What::Function => closed(tokens, at + 1),
+                Kind::Mark if t.is("#") => self.find(Why::NotFollowed, at, "not followed: an attribute".to_string()),
                 Kind::Mark if t.is("[") => self.bracket(at),
+                Kind::Text => self.find(Why::ConstantOfBytes, at, format!("a constant of bytes: {}", t.text)),
+                Kind::Word if OUTSIDE.iter().any(|w| t.is(w)) => self.find(Why::NotFollowed, at, format!("not followed: {} in it", t.text)),
+                Kind::Word if self.before(at, 1).is_some_and(|t| t.is(".")) => self.member(at),
+                Kind::Word if (t.named() || path) && !self.own(at, depth) => self.name(at),
                 _ => at + 1,
             };
         }
     }
+}
+
+// ---- all of them
+
+/// What a module brings from elsewhere that the source does not have.
+fn astray(names: &Names, module: &[String]) -> Vec<Finding> {
+    let item = module.join("::");
+    let uses = names.source.uses.get(module).into_iter().flatten().filter(|u| !names.brings(module, &u.path));
+    let said = uses.map(|u| format!("{item}: not followed: use {}", u.path.join("::")));
+    said.map(|said| Finding { why: Why::NotFollowed, item: item.clone(), said }).collect()
 }
 
 /// Everything that the roots call, name or are given, and what is found there.
@@ -248,18 +289,13 @@ pub fn reach(source: &Source, roots: &[&str]) -> Reached {
         if item.what == What::Function {
             reached.functions.insert(item.path());
         }
-        let mut look = Look { names: &names, item, leads: Vec::new(), findings: Vec::new() };
+        let mut look = Look::at(&names, item);
         look.whole();
         reached.findings.extend(look.findings);
         open.extend(look.leads.into_iter().filter(|&j| seen.insert(j)));
         modules.insert(&item.module);
     }
-    for module in modules {
-        let item = module.join("::");
-        let globs = source.uses.get(module).into_iter().flatten().filter(|u| u.name == "*");
-        let said = globs.map(|u| format!("{item}: not followed: {}", u.path.join("::")));
-        reached.findings.extend(said.map(|said| Finding { why: Why::NotFollowed, item: item.clone(), said }));
-    }
+    reached.findings.extend(modules.into_iter().flat_map(|module| astray(&names, module)));
     let unread = source.unread.iter().map(|(module, said)| Finding { why: Why::NotFollowed, item: module.join("::"), said: said.clone() });
     reached.findings.extend(unread);
     reached

@@ -1,6 +1,6 @@
 //! The source of all crates, read into items: functions, types, constants, with their tokens. Comments and contracts are left out.
 
-use std::collections::BTreeMap;
+use std::collections::{BTreeMap, BTreeSet};
 use std::path::{Path, PathBuf};
 
 #[derive(Clone, Copy, Debug, PartialEq, Eq)]
@@ -31,9 +31,10 @@ impl Token {
     }
 }
 
-pub const KEYWORDS: [&str; 34] = [
-    "as", "break", "const", "continue", "crate", "else", "ensures", "enum", "extern", "false", "fn", "for", "ghost", "if", "impl", "in", "let",
-    "loop", "match", "mod", "mut", "pub", "ref", "requires", "return", "self", "static", "struct", "super", "true", "type", "unsafe", "use", "while",
+pub const KEYWORDS: [&str; 41] = [
+    "as", "async", "await", "break", "const", "continue", "crate", "dyn", "else", "ensures", "enum", "extern", "false", "fn", "for", "ghost", "if",
+    "impl", "in", "let", "loop", "match", "mod", "move", "mut", "pub", "ref", "requires", "return", "self", "static", "struct", "super", "trait",
+    "true", "type", "unsafe", "use", "where", "while", "yield",
 ];
 
 #[derive(Clone, Copy, Debug, PartialEq, Eq)]
@@ -74,6 +75,8 @@ pub struct Use {
 
 #[derive(Default)]
 pub struct Source {
+    /// The crates that each stands on, itself among them: no other can be named in it.
+    pub below: BTreeMap<String, BTreeSet<String>>,
     pub items: Vec<Item>,
     pub uses: BTreeMap<Vec<String>, Vec<Use>>,
     /// Where no item could be read, in which module.
@@ -125,26 +128,24 @@ fn comment(text: &[char], at: usize) -> Option<usize> {
     }
 }
 
-/// The kind of the token that begins at `at`, and its end.
+/// The kind of the token that begins at `at`, and its end. The `b` of b"x" and b'x' is a word by itself.
 fn token(text: &[char], at: usize) -> (Kind, usize) {
     let next = |i: usize| text.get(at + i).copied().unwrap_or(' ');
-    let prefix = text[at..].iter().take_while(|&&c| matches!(c, 'b' | 'c' | 'r')).count();
-    if prefix <= 2 && next(prefix) == '"' && next(prefix.max(1) - 1) != 'r' {
-        return (Kind::Text, quoted(text, at + prefix));
+    if next(0) == '"' {
+        return (Kind::Text, quoted(text, at));
     }
-    if (1..=2).contains(&prefix) && next(prefix - 1) == 'r' && matches!(next(prefix), '"' | '#') {
-        return (Kind::Text, raw(text, at + prefix));
+    let r = usize::from(matches!(next(0), 'b' | 'c'));
+    if next(r) == 'r' && matches!(next(r + 1), '"' | '#') {
+        return (Kind::Text, raw(text, at + r + 1));
     }
-    // a character, b'x' or '\n', is a number; anything else after a quote is a lifetime
-    let quote = usize::from(next(0) == 'b' && next(1) == '\'');
-    if next(quote) == '\'' {
-        if next(quote + 1) == '\\' {
-            let end = text[at + quote + 3..].iter().take_while(|&&c| c != '\'').count();
-            return (Kind::Number, at + quote + 3 + end + 1);
-        }
-        if next(quote + 2) == '\'' {
-            return (Kind::Number, at + quote + 3);
-        }
+    // a character is a number; anything else after a quote is a lifetime
+    if next(0) == '\'' && next(1) == '\\' {
+        return (Kind::Number, at + 4 + text[(at + 3).min(text.len())..].iter().take_while(|&&c| c != '\'').count());
+    }
+    if next(0) == '\'' && next(2) == '\'' {
+        return (Kind::Number, at + 3);
+    }
+    if next(0) == '\'' {
         return (Kind::Lifetime, at + 1 + text[at + 1..].iter().take_while(|&&c| is_word(c)).count());
     }
     if is_word(next(0)) {
@@ -156,7 +157,35 @@ fn token(text: &[char], at: usize) -> (Kind, usize) {
     (Kind::Mark, at + if long { 2 } else { 1 })
 }
 
-pub fn tokens(text: &str) -> Vec<Token> {
+/// The end of the contract whose bracket opens at `at`: it is no Rattle, so only its brackets are counted. None where it has a comment or a quote, in
+/// which a bracket may be none.
+fn contract(text: &[char], at: usize) -> Option<usize> {
+    let mut depth = 0;
+    for i in at..text.len() {
+        let two: String = text[i..].iter().take(2).collect();
+        if ["--", "{-", "//", "/*"].contains(&two.as_str()) || text[i] == '"' || text[i] == '\'' {
+            return None;
+        }
+        depth += i32::from(text[i] == '{') - i32::from(text[i] == '}');
+        if depth == 0 {
+            return Some(i + 1);
+        }
+    }
+    None
+}
+
+/// The place after what a word of the logic stands before: a contract, or a `ghost use` up to its end; `at` is the place after the word.
+fn logic(text: &[char], at: usize, word: &str) -> Option<usize> {
+    let next = at + text[at..].iter().take_while(|c| c.is_whitespace()).count();
+    match word {
+        "ghost" => Some(at + text[at..].iter().take_while(|&&c| c != ';').count()),
+        "requires" | "ensures" if text.get(next) == Some(&'{') => contract(text, next),
+        _ => Some(at),
+    }
+}
+
+/// The tokens of a file; none where a contract's end cannot be told.
+pub fn tokens(text: &str) -> Option<Vec<Token>> {
     let text: Vec<char> = text.chars().collect();
     let (mut found, mut at, mut line) = (Vec::new(), 0, 1);
     while at < text.len() {
@@ -166,14 +195,15 @@ pub fn tokens(text: &str) -> Vec<Token> {
             end
         } else {
             let (kind, end) = token(&text, at);
-            let end = end.min(text.len());
-            found.push(Token { kind, text: text[at..end].iter().collect(), line });
+            let word: String = text[at..end.min(text.len())].iter().collect();
+            let end = if kind == Kind::Word { logic(&text, end, &word)? } else { end.min(text.len()) };
+            found.push(Token { kind, text: word, line });
             end
         };
         line += text[at..end].iter().filter(|&&c| c == '\n').count();
         at = end;
     }
-    found
+    Some(found)
 }
 
 // ---- items
@@ -208,7 +238,7 @@ fn function(tokens: &[Token], at: usize) -> (Vec<Token>, usize) {
     let (mut kept, mut i) = (Vec::new(), at);
     while i < tokens.len() {
         if tokens[i].is("requires") || tokens[i].is("ensures") {
-            i = closed(tokens, i + 1);
+            i += 1;
         } else if tokens[i].is("{") || tokens[i].is(";") {
             let end = if tokens[i].is("{") { closed(tokens, i) } else { i + 1 };
             kept.extend_from_slice(&tokens[i..end]);
@@ -336,29 +366,48 @@ impl Source {
         Some(ended)
     }
 
-    /// The source of every crate under `crates`: `texts` are its files by their paths from there.
-    pub fn of(texts: &BTreeMap<String, String>) -> Source {
-        let mut source = Source::default();
-        for (file, text) in texts {
-            let parts: Vec<&str> = file.trim_end_matches(".rt").split('/').filter(|p| *p != "src").collect();
-            let module: Vec<String> = parts.iter().filter(|p| !matches!(**p, "lib" | "main")).map(|p| p.to_string()).collect();
-            source.read(&tokens(text), &Place { module: &module, method_of: None, file });
+    /// The source of all crates: `files` by their paths from the root, crates.txt among them.
+    pub fn of(files: &BTreeMap<String, String>) -> Source {
+        let mut source = Source { below: below(files.get(CRATES).map_or("", String::as_str)), ..Source::default() };
+        for (file, text) in files.iter().filter(|f| f.0 != CRATES) {
+            let parts = file.trim_end_matches(".rt").split('/').filter(|p| !matches!(*p, "crates" | "src" | "lib" | "main"));
+            let module: Vec<String> = parts.map(str::to_string).collect();
+            match tokens(text) {
+                Some(tokens) => source.read(&tokens, &Place { module: &module, method_of: None, file }),
+                None => drop(source.unread.insert(module, format!("{file}: a contract with a comment or a quote"))),
+            }
         }
         source
     }
 }
 
-/// The files of Rattle under a folder, by their paths from it.
-pub fn files(folder: &Path) -> std::io::Result<BTreeMap<String, String>> {
-    let mut found = BTreeMap::new();
-    let mut folders: Vec<PathBuf> = vec![folder.to_path_buf()];
+const CRATES: &str = "crates.txt";
+
+/// The crates that each stands on, itself among them, and what those stand on.
+fn below(text: &str) -> BTreeMap<String, BTreeSet<String>> {
+    let lines = text.lines().filter_map(|line| line.split('#').next()?.split_once(':'));
+    let mut all: BTreeMap<String, BTreeSet<String>> =
+        lines.map(|(name, others)| (name.trim().to_string(), others.split_whitespace().chain([name.trim()]).map(str::to_string).collect())).collect();
+    for _ in 0..all.len() {
+        let next = all
+            .iter()
+            .map(|(name, others)| (name.clone(), others.iter().flat_map(|o| all.get(o).into_iter().flatten().chain([o])).cloned().collect()));
+        all = next.collect();
+    }
+    all
+}
+
+/// The source under a folder: crates.txt, and the files of Rattle by their paths from there.
+pub fn files(root: &Path) -> std::io::Result<BTreeMap<String, String>> {
+    let mut found = BTreeMap::from([(CRATES.to_string(), std::fs::read_to_string(root.join(CRATES))?)]);
+    let mut folders: Vec<PathBuf> = vec![root.join("crates")];
     while let Some(at) = folders.pop() {
         for entry in std::fs::read_dir(&at)? {
             let path = entry?.path();
             if path.is_dir() {
                 folders.push(path);
             } else if path.extension().is_some_and(|e| e == "rt") {
-                let name = path.strip_prefix(folder).unwrap_or(&path).to_string_lossy().into_owned();
+                let name = path.strip_prefix(root).unwrap_or(&path).to_string_lossy().into_owned();
                 found.insert(name, std::fs::read_to_string(&path)?);
             }
         }

@@ -77,7 +77,7 @@ fn put_event(out: &mut [u8], at: usize, recovery: u8, side: u8, held: u16) -> us
     put_field(out, b, 2, held as u32)
 }
 
-// The image at the front of a buffer that holds it: each field after the one before it.
+// The image at the front of a buffer that has room for it: each field after the one before it.
 fn put_image(out: &mut [u8], b: Board)
     requires { ⌜ imageLength ≤ length (now out) ⌝ }
     ensures { λ _. ⌜ now (out .exit) ≡ written (now (out .entry)) 0 (image b) ⌝ }
