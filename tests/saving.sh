@@ -1,7 +1,9 @@
 #!/usr/bin/env bash
-# Saving holds no array of bytes of its own (spec 9.9): a test of the source of everything that it calls, names or is given (tests/saving/). A pass is an
-# item of the source that saving reaches and that holds none, a name that it must reach, a wrong copy of the source that is turned down, a right one that
-# is not, the compiler's account of saving, which has none either, or a wrong account that is turned down.
+# Saving holds no array of bytes of its own (spec 9.9): a test of the source of everything that it calls, names or is given (tests/saving/). A pass is one of:
+# - an item that saving reaches, with nothing found in it, and nothing found at all;
+# - an item that saving must reach;
+# - a wrong copy of the source that is turned down, and a right one that is not;
+# - the compiler's account of saving, with no array in it, and a wrong account that is turned down.
 set -u
 cd "$(dirname "$0")/.." || exit 2
 out=target/saving

@@ -691,8 +691,8 @@ static uint32_t step(saltdelta_board *b, const saltdelta_settings *s, const uint
     return number;
 }
 
-/* Savings go to sixteen places of a log, one after the other. They are counted by how far the place is past one that 16 divides, and by the bytes
- * that they left other than 0 and than what stood there. */
+/* Savings go to sixteen places of a log, one after the other. They are counted by their address modulo 16, and for each byte of the
+ * image by whether they changed it to something other than 0. */
 enum { PLACES = 16, ROOM = 64, LOG = PLACES + PLACES + ROOM + PLACES };
 static unsigned placed[PLACES], byte_written[SALTDELTA_IMAGE];
 
@@ -1342,8 +1342,8 @@ static void log_saves(void) {
 static void log_reached(void) {
     char which[48];
     for (int i = 0; i < PLACES; i++) {
-        sprintf(which, "%d past one that 16 divides", i);
-        often(placed[i], "log: a place ", which, "");
+        sprintf(which, "of %d modulo 16", i);
+        often(placed[i], "log: an address ", which, "");
     }
     for (int i = 0; i < SALTDELTA_IMAGE; i++) {
         sprintf(which, "%d written", i);

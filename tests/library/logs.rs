@@ -1,4 +1,4 @@
-//! A logger's savings (spec 9.3): an image after every step, at any place of a log, straight into its bytes.
+//! A logger's savings (spec 9.3): an image after every step, at any place of a log.
 
 use super::*;
 
@@ -26,9 +26,9 @@ const LOG: usize = 4096;
 /// A log, full of anything, and what was reached by the savings into it.
 struct Log {
     bytes: Vec<u8>,
-    /// Savings by how far their place is past one that 16 divides.
+    /// Savings by their address modulo 16.
     placed: [u64; 16],
-    /// Savings by the bytes that they left other than 0 and than what stood there.
+    /// For each byte of the image, the savings that changed it to something other than 0.
     written: [u64; IMAGE],
 }
 
@@ -56,7 +56,7 @@ impl Log {
         Some(number)
     }
 
-    /// The same at a place drawn by lot, with more room than an image needs or just that.
+    /// The same at a place drawn by lot, with just an image's room or up to 99 bytes more; gives the image, where all is right.
     fn save_somewhere(&mut self, tally: &mut Tally, dice: &mut Dice, board: &Board) -> Option<&[u8]> {
         let room = IMAGE + if dice.one_in(4) { 0 } else { dice.below(100) as usize };
         let at = dice.below((LOG - room) as u64 + 1) as usize;
@@ -81,7 +81,7 @@ fn lives(tally: &mut Tally, dice: &mut Dice, log: &mut Log) -> [u64; 3] {
             seen[0] += u64::from(number == 0 && image.is_some());
             seen[1] += u64::from(number != 0 && image.is_some());
             seen[2] += u64::from(number != 0 && image.is_some() && image == last);
-            tally.call(number == 0 || image == last, || format!("a refused step changes the image of {board:?}"));
+            tally.call(number == 0 || image == last, || format!("another image of {board:?} after a refused step, or a saving that differs"));
             last = image;
         }
         tally.case();
@@ -148,7 +148,7 @@ pub fn savings(tally: &mut Tally, dice: &mut Dice) {
     let right = full(tally, dice, &mut log);
     tally.reached("log: no room", "at its end, refused with 9", right);
     for (past, count) in log.placed.into_iter().enumerate() {
-        tally.reached("log: a place", &format!("{past} past one that 16 divides"), count);
+        tally.reached("log: an address", &format!("of {past} modulo 16"), count);
     }
     for (k, count) in log.written.into_iter().enumerate() {
         tally.reached("log: byte", &format!("{k} written"), count);

@@ -1,4 +1,4 @@
-//! Small copies of the source, each with a change or two: wrong ones, which must be turned down, and right ones, which must pass. They are read, not
+//! Copies of the source, each with a few small changes: wrong ones, which must be turned down, and right ones, which must pass. They are read, not
 //! compiled.
 
 use super::reach::Why::{self, Array, ConstantOfBytes, NotFollowed};
@@ -75,6 +75,11 @@ const BUFFERS: Place = ("crates/buffers/src/lib.rt", "//");
 
 /// Two functions whose contracts have a bracket each that is none.
 const COMMENTS: &str = "fn low(n: u32) -> u8\n    ensures { ⌜ n ⌝ -- {\n    }\n{ [n as u8][0] }\nfn beside()\n    ensures { ⌜ n ⌝ -- }\n    }\n{ }";
+const NAMES: &str = "fn low(n: u32) -> u8\n    ensures { λ «{». ⌜ n ⌝ }\n{ [n as u8][0] }\nfn beside()\n    ensures { λ «}». ⌜ n ⌝ }\n{ }";
+const NAMED: &str = "fn low(n: u32) -> u8\n    ensures right { ⌜ n ⌝ -- /*\n    }\n{ [n as u8][0] }\nfn beside() {\n    // */\n}";
+/// A function with a ghost value and a clause that has a name.
+const GHOST: &str = "fn beside(n: u32) -> u32\n    ghost { ℕ }\n    requires { λ g. ⌜ n ≡ g ⌝ }\n    ensures same { λ g r. ⌜ r ≡ g ⌝ }\n{ n }";
+const KIT: Change = Put(("crates.txt", "image: rules"), "image: io libc rules");
 const QUOTES: &str = "fn low(n: u32) -> u8\n    ensures { ⌜ \"{\" ⌝ }\n{ [n as u8][0] }\nfn beside()\n    ensures { ⌜ \"}\" ⌝ }\n{ }";
 const LOW: &str = "pub fn low(n: u32) -> u8 { [n as u8][0] }";
 const BOARD_FRONT: &str = "impl Board { pub fn front(self) -> u8 { let bytes = [self.status]; bytes[0] } }";
@@ -154,6 +159,23 @@ pub const WRONG: &[Copy] = &[
         "image::Line",
         &[Add(HERE, "struct Line { bytes: [u8; 4] } impl Line { fn low(n: u32) -> u8 { 0 } }"), Put(BYTE, "Line::low(rest);")],
     ),
+    wrong(
+        "in a variant that a use brings",
+        Array,
+        "rules::Line",
+        &[Add(THERE, "pub enum Line { Limit, Full([u8; 49]) }"), Add(USES, "use rules::Line::Limit as none;"), Put(BYTE, "0; let line = none;")],
+    ),
+    wrong(
+        "in a type of its own, by `Self`",
+        Array,
+        "image::Line",
+        &[
+            Add(HERE, "struct Line { bytes: [u8; 2] } struct Row<'a> { src: &'a [u8] } impl<'a> Row<'a> { fn low(self) -> u8 { Self::of() } }"),
+            Add(HERE, "impl rules::Row { fn of() -> u8 { let line = Line { bytes }; 0 } }"),
+            Put(BYTE, "rest.low();"),
+        ],
+    ),
+    wrong("the record's numbers as bytes, by a name", Array, "rules::Board", &[Add(THERE, "type u32 = u8;")]),
     wrong("in the record", Array, "rules::Board", &[Add(COUNTERS, "    pub spare: [u8; 3],")]),
     wrong("the record's counters as bytes", Array, "rules::Board", &[Put(COUNTERS, "    pub counters: [u8; 36],")]),
     // by a name
@@ -295,16 +317,43 @@ pub const WRONG: &[Copy] = &[
     ),
     wrong("another library's type", NotFollowed, "image::put_field", &[Put(VALUE, "value: Bytes)")]),
     wrong("a macro", NotFollowed, "image::put_field", &[Put(BYTE, "low!(rest);")]),
+    wrong("a crate without source", NotFollowed, "io", &[KIT, Put(BYTE, "io::buffer()[left];")]),
+    wrong(
+        "a name that a module hands on from outside",
+        NotFollowed,
+        "image::rows",
+        &[Add(HERE, "mod rows { pub use std::bytes as put_field; }"), Put(BYTE, "rows::put_field()[left];")],
+    ),
     wrong("every name of a crate", NotFollowed, "image", &[Add(USES, "use rules::*;")]),
     wrong("what cannot be read", NotFollowed, "image", &[Add(HERE, "trait Low {}")]),
     wrong("a comment in a contract", NotFollowed, "image", &[Add(HERE, COMMENTS), Put(BYTE, "low(rest);")]),
     wrong("a quote in a contract", NotFollowed, "image", &[Add(HERE, QUOTES), Put(BYTE, "low(rest);")]),
+    wrong("a name in a contract that is a bracket", NotFollowed, "image", &[Add(HERE, NAMES), Put(BYTE, "low(rest);")]),
+    wrong("a comment in a contract with a name", NotFollowed, "image", &[Add(HERE, NAMED), Put(BYTE, "low(rest);")]),
+    wrong(
+        "a comment in a ghost use",
+        NotFollowed,
+        "image",
+        &[Add(HERE, "ghost use mathlib.Core.Logic.{⊤ -- ; /*\n};\nconst low: [u8; 4] = [0; 4];\n// */"), Put(BYTE, "low[left];")],
+    ),
+    wrong(
+        "a word of the logic elsewhere",
+        NotFollowed,
+        "image",
+        &[
+            Add(BUFFERS, "pub fn low(n: u32) -> u8 { 0 }"),
+            Add(HERE, "struct Row { ghost: u32 } fn low(n: u32) -> u8 { [0][0] }"),
+            Put(BYTE, "low(rest);"),
+        ],
+    ),
     wrong("a contract in a function", NotFollowed, "image::put_field", &[Put(BYTE, "0; if ensures { let bytes = [0; 4]; }")]),
 ];
 
 pub const RIGHT: &[Copy] = &[
     right("the same", &[]),
     right("arrays in comments", &[Put(BYTE, "(rest % 256) as u8; // [0; 4] /*\n        /* [u8; 4] /* b\"0\" */ [1, 2] */")]),
+    right("a ghost value, and a clause with a name", &[Add(HERE, GHOST), Put(BYTE, "beside(rest) as u8;")]),
+    right("a prime in a contract", &[Put((IMAGE, "⌜ r ≡ at + 36 ⌝"), "⌜ r' ≡ at + 36 ⌝")]),
     right("brackets in a contract", &[Put((IMAGE, "⌜ r ≡ at + 36 ⌝"), "⌜ r ≡ [u8; 4] { [0, 1] } ⌝")]),
     right("a function that saving does not call", &[Add(HERE, "fn beside() -> [u8; 4] { [0; 4] }")]),
     right("what saving does not name", &[Add(HERE, "struct Line { bytes: [u8; 49] } const BYTES: [u8; 2] = [0; 2];")]),

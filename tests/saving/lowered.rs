@@ -13,7 +13,7 @@ pub struct Program {
 
 impl Program {
     pub fn of(text: &str) -> Program {
-        // behind the functions stands the name of the one that begins
+        // the account ends with the name of the main function
         let text = text.rsplit_once("(fnRef").map_or(text, |(front, _)| front);
         let functions = text.split("(fn-def \"").skip(1).filter_map(|part| {
             let (name, body) = part.split_once('"')?;

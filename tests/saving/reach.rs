@@ -1,8 +1,8 @@
 //! What saving calls, names and is given, and what is found there that it must not hold.
 //!
-//! A name leads to every item of that name, of its crate and of those below it: which of them a path, a `use` or a rule of scopes would choose is not
-//! asked. What leads nowhere is a finding too, unless it can only be a local, a parameter or a field: a call, a type, a path, a `use`, a method of the
-//! language other than `len`.
+//! A name leads to every item of that name, of its crate and of those below it; which of them a path, a `use` or a scope would choose is not asked, only
+//! whether a path may begin so. What leads nowhere is a finding too: a call, a type, a path, a `use`, a method of the language other than `len`. A single
+//! small name that leads nowhere is taken for a local, a parameter or a field.
 
 use super::source::*;
 use std::collections::{BTreeMap, BTreeSet};
@@ -61,7 +61,7 @@ impl<'a> Names<'a> {
             names.modules.extend(module.iter().map(|part| (module[0].as_str(), part.as_str())));
         }
         for u in source.uses.values().flatten() {
-            names.given.entry(&u.name).or_default().extend(u.path.iter().rfind(|part| *part != "self").map(String::as_str));
+            names.given.entry(&u.name).or_default().extend(u.path.iter().map(String::as_str));
         }
         names
     }
@@ -92,7 +92,11 @@ impl<'a> Names<'a> {
     fn begins(&self, module: &[String], name: &str) -> bool {
         let krate = &module[0];
         let brought = self.source.uses.get(module).is_some_and(|uses| uses.iter().any(|u| u.name == name));
-        let a_module = |n: &str| self.modules.iter().any(|m| m.1 == n && (brought || m.0 == n || m.0 == krate));
+        let child = |n: &str| {
+            let deeper = |m: &Vec<String>| m.len() > module.len() && m.starts_with(module) && m[module.len()] == n;
+            self.source.items.iter().map(|i| &i.module).chain(self.source.uses.keys()).any(deeper)
+        };
+        let a_module = |n: &str| child(n) || self.modules.iter().any(|m| m.1 == n && (brought || m.0 == n));
         ["crate", "self", "super"].contains(&name) || self.meant(name).iter().any(|n| a_module(n)) || !self.types(krate, name).is_empty()
     }
 
@@ -180,6 +184,7 @@ impl<'a> Look<'a> {
         let tokens = &self.item.tokens;
         let end = closed(tokens, at);
         let counters = self.item.path() == RECORD && text(&tokens[at.saturating_sub(2)..end]) == COUNTERS_TYPE;
+        let counters = counters && self.names.items(self.krate(), "u32").is_empty();
         if !self.indexes(at) && !self.lent_part(at, &tokens[at + 1..end - 1]) && !counters {
             let said = format!("an array: {}", text(&tokens[at..end]));
             self.find(Why::Array, at, said);
@@ -268,12 +273,17 @@ impl<'a> Look<'a> {
 
 // ---- all of them
 
-/// What a module brings from elsewhere that the source does not have.
-fn astray(names: &Names, module: &[String]) -> Vec<Finding> {
-    let item = module.join("::");
-    let uses = names.source.uses.get(module).into_iter().flatten().filter(|u| !names.brings(module, &u.path));
-    let said = uses.map(|u| format!("{item}: not followed: use {}", u.path.join("::")));
-    said.map(|said| Finding { why: Why::NotFollowed, item: item.clone(), said }).collect()
+/// What these crates have that the source has not: crates below them, what a `use` brings, and files that were not read.
+fn astray(names: &Names, crates: &BTreeSet<&String>) -> Vec<Finding> {
+    let source = names.source;
+    let here = |module: &&[String]| crates.contains(&module[0]);
+    let alone = crates.iter().filter(|c| !source.crates.contains(**c)).map(|c| (vec![c.to_string()], format!("{c}: a crate without source")));
+    let uses = source.uses.iter().filter(|u| here(&u.0.as_slice())).flat_map(|(module, uses)| uses.iter().map(move |u| (module, u)));
+    let brought = uses.filter(|(module, u)| !names.brings(module, &u.path)).map(|(m, u)| (m.clone(), format!("use {}", u.path.join("::"))));
+    let unread = source.unread.iter().map(|(module, said)| (module.clone(), said.clone()));
+    let finding =
+        |(module, said): (Vec<String>, String)| Finding { why: Why::NotFollowed, item: module.join("::"), said: format!("not followed: {said}") };
+    alone.chain(brought).chain(unread).map(finding).collect()
 }
 
 /// Everything that the roots call, name or are given, and what is found there.
@@ -295,8 +305,7 @@ pub fn reach(source: &Source, roots: &[&str]) -> Reached {
         open.extend(look.leads.into_iter().filter(|&j| seen.insert(j)));
         modules.insert(&item.module);
     }
-    reached.findings.extend(modules.into_iter().flat_map(|module| astray(&names, module)));
-    let unread = source.unread.iter().map(|(module, said)| Finding { why: Why::NotFollowed, item: module.join("::"), said: said.clone() });
-    reached.findings.extend(unread);
+    let below: BTreeSet<&String> = modules.iter().filter_map(|m| source.below.get(&m[0])).flatten().collect();
+    reached.findings.extend(astray(&names, &below));
     reached
 }

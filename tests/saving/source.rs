@@ -77,6 +77,8 @@ pub struct Use {
 pub struct Source {
     /// The crates that each stands on, itself among them: no other can be named in it.
     pub below: BTreeMap<String, BTreeSet<String>>,
+    /// The crates that have a file.
+    pub crates: BTreeSet<String>,
     pub items: Vec<Item>,
     pub uses: BTreeMap<Vec<String>, Vec<Use>>,
     /// Where no item could be read, in which module.
@@ -157,13 +159,13 @@ fn token(text: &[char], at: usize) -> (Kind, usize) {
     (Kind::Mark, at + if long { 2 } else { 1 })
 }
 
-/// The end of the contract whose bracket opens at `at`: it is no Rattle, so only its brackets are counted. None where it has a comment or a quote, in
-/// which a bracket may be none.
+/// The end of the contract whose bracket opens at `at`: it is text of the logic, so only its brackets are counted. None where it has a comment or a quote, in
+/// which a bracket would be none.
 fn contract(text: &[char], at: usize) -> Option<usize> {
     let mut depth = 0;
     for i in at..text.len() {
         let two: String = text[i..].iter().take(2).collect();
-        if ["--", "{-", "//", "/*"].contains(&two.as_str()) || text[i] == '"' || text[i] == '\'' {
+        if ["--", "{-", "//", "/*", "'{", "'}"].contains(&two.as_str()) || ['"', '«'].contains(&text[i]) {
             return None;
         }
         depth += i32::from(text[i] == '{') - i32::from(text[i] == '}');
@@ -174,13 +176,25 @@ fn contract(text: &[char], at: usize) -> Option<usize> {
     None
 }
 
-/// The place after what a word of the logic stands before: a contract, or a `ghost use` up to its end; `at` is the place after the word.
+/// The place after what a word of the logic stands before: a clause, `ensures { .. }`, `ensures name { .. }`, `ghost { .. }`, or a `ghost use` up to its
+/// end; `at` is the place after the word. None where neither stands there, or the end cannot be told.
 fn logic(text: &[char], at: usize, word: &str) -> Option<usize> {
-    let next = at + text[at..].iter().take_while(|c| c.is_whitespace()).count();
-    match word {
-        "ghost" => Some(at + text[at..].iter().take_while(|&&c| c != ';').count()),
-        "requires" | "ensures" if text.get(next) == Some(&'{') => contract(text, next),
-        _ => Some(at),
+    if !["ghost", "requires", "ensures"].contains(&word) {
+        return Some(at);
+    }
+    let spaces = |i: usize| i + text[i..].iter().take_while(|c| c.is_whitespace()).count();
+    let name = spaces(at);
+    let after = name + text[name..].iter().take_while(|&&c| is_word(c)).count();
+    if word == "ghost" && text[name..after] == ['u', 's', 'e'] {
+        let end = at + text[at..].iter().take_while(|&&c| c != ';').count();
+        let said: String = text[at..end].iter().collect();
+        return (!["--", "{-", "\"", "«"].iter().any(|m| said.contains(m))).then_some(end);
+    }
+    let open = spaces(after);
+    if text.get(open) == Some(&'{') {
+        contract(text, open)
+    } else {
+        None
     }
 }
 
@@ -237,7 +251,7 @@ fn first(tokens: &[Token], mut at: usize, marks: &[&str]) -> usize {
 fn function(tokens: &[Token], at: usize) -> (Vec<Token>, usize) {
     let (mut kept, mut i) = (Vec::new(), at);
     while i < tokens.len() {
-        if tokens[i].is("requires") || tokens[i].is("ensures") {
+        if ["requires", "ensures", "ghost"].iter().any(|w| tokens[i].is(w)) {
             i += 1;
         } else if tokens[i].is("{") || tokens[i].is(";") {
             let end = if tokens[i].is("{") { closed(tokens, i) } else { i + 1 };
@@ -358,7 +372,8 @@ impl Source {
             "impl" => {
                 let body = first(tokens, at, &["{"]);
                 let end = closed(tokens, body);
-                self.read(tokens.get(body + 1..end - 1)?, &Place { method_of: Some(&tokens[at + 1].text), ..*place });
+                let of = tokens[at + 1..body].iter().take_while(|t| !t.is("where")).filter(|t| t.named()).last()?;
+                self.read(tokens.get(body + 1..end - 1)?, &Place { method_of: Some(&of.text), ..*place });
                 return Some(end);
             }
             _ => return None,
@@ -370,8 +385,13 @@ impl Source {
     pub fn of(files: &BTreeMap<String, String>) -> Source {
         let mut source = Source { below: below(files.get(CRATES).map_or("", String::as_str)), ..Source::default() };
         for (file, text) in files.iter().filter(|f| f.0 != CRATES) {
-            let parts = file.trim_end_matches(".rt").split('/').filter(|p| !matches!(*p, "crates" | "src" | "lib" | "main"));
-            let module: Vec<String> = parts.map(str::to_string).collect();
+            // crates/NAME/src/PATH.rt; lib and main are the crate itself
+            let mut module: Vec<String> = file.trim_end_matches(".rt").split('/').skip(1).map(str::to_string).collect();
+            module.remove(1);
+            if module.len() == 2 && matches!(module[1].as_str(), "lib" | "main") {
+                module.truncate(1);
+            }
+            source.crates.insert(module[0].clone());
             match tokens(text) {
                 Some(tokens) => source.read(&tokens, &Place { module: &module, method_of: None, file }),
                 None => drop(source.unread.insert(module, format!("{file}: a contract with a comment or a quote"))),
