@@ -1,5 +1,5 @@
-//! The compiler's account of the functions, as `rt mir` prints it: their locals with their types, and their calls. A constant that the compiler puts in as a
-//! number does not show there.
+//! The compiler's account of the functions, as `rt mir` prints it: their locals with their types, and their calls. A constant that the compiler puts
+//! in as a number does not show there.
 
 use std::collections::{BTreeMap, BTreeSet};
 

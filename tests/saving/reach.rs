@@ -1,8 +1,8 @@
 //! What saving calls, names and is given, and what is found there that it must not hold.
 //!
-//! A name leads to every item of that name, of its crate and of those below it; which of them a path, a `use` or a scope would choose is not asked, only
-//! whether a path may begin so. What leads nowhere is a finding too: a call, a type, a path, a `use`, a method of the language other than `len`. A single
-//! small name that leads nowhere is taken for a local, a parameter or a field.
+//! A name leads to every item of that name, of its crate and of those below it; which of them a path, a `use` or a scope would choose is not asked,
+//! only whether a path may begin so. What leads nowhere is a finding too: a call, a type, a path, a `use`, a method of the language other than `len`.
+//! A single small name that leads nowhere is taken for a local, a parameter or a field.
 
 use super::source::*;
 use std::collections::{BTreeMap, BTreeSet};
@@ -276,9 +276,8 @@ impl<'a> Look<'a> {
 /// What these crates have that the source has not: crates below them, what a `use` brings, and files that were not read.
 fn astray(names: &Names, crates: &BTreeSet<&String>) -> Vec<Finding> {
     let source = names.source;
-    let here = |module: &&[String]| crates.contains(&module[0]);
     let alone = crates.iter().filter(|c| !source.crates.contains(**c)).map(|c| (vec![c.to_string()], format!("{c}: a crate without source")));
-    let uses = source.uses.iter().filter(|u| here(&u.0.as_slice())).flat_map(|(module, uses)| uses.iter().map(move |u| (module, u)));
+    let uses = source.uses.iter().filter(|u| crates.contains(&u.0[0])).flat_map(|(module, uses)| uses.iter().map(move |u| (module, u)));
     let brought = uses.filter(|(module, u)| !names.brings(module, &u.path)).map(|(m, u)| (m.clone(), format!("use {}", u.path.join("::"))));
     let unread = source.unread.iter().map(|(module, said)| (module.clone(), said.clone()));
     let finding =
@@ -292,7 +291,7 @@ pub fn reach(source: &Source, roots: &[&str]) -> Reached {
     let mut reached = Reached::default();
     let mut open: Vec<usize> = (0..source.items.len()).filter(|&i| roots.contains(&source.items[i].path().as_str())).collect();
     let mut seen: BTreeSet<usize> = open.iter().copied().collect();
-    let mut modules: BTreeSet<&[String]> = BTreeSet::new();
+    let mut crates: BTreeSet<&String> = BTreeSet::new();
     while let Some(i) = open.pop() {
         let item = &source.items[i];
         reached.items.insert(item.path());
@@ -303,9 +302,9 @@ pub fn reach(source: &Source, roots: &[&str]) -> Reached {
         look.whole();
         reached.findings.extend(look.findings);
         open.extend(look.leads.into_iter().filter(|&j| seen.insert(j)));
-        modules.insert(&item.module);
+        crates.insert(&item.module[0]);
     }
-    let below: BTreeSet<&String> = modules.iter().filter_map(|m| source.below.get(&m[0])).flatten().collect();
+    let below: BTreeSet<&String> = crates.into_iter().filter_map(|c| source.below.get(c)).flatten().collect();
     reached.findings.extend(astray(&names, &below));
     reached
 }

@@ -159,8 +159,8 @@ fn token(text: &[char], at: usize) -> (Kind, usize) {
     (Kind::Mark, at + if long { 2 } else { 1 })
 }
 
-/// The end of the contract whose bracket opens at `at`: it is text of the logic, so only its brackets are counted. None where it has a comment or a quote, in
-/// which a bracket would be none.
+/// The end of the contract whose bracket opens at `at`: it is text of the logic, so only its brackets are counted. None where it has a comment or a
+/// quote, in which a bracket would be none.
 fn contract(text: &[char], at: usize) -> Option<usize> {
     let mut depth = 0;
     for i in at..text.len() {
@@ -176,8 +176,8 @@ fn contract(text: &[char], at: usize) -> Option<usize> {
     None
 }
 
-/// The place after what a word of the logic stands before: a clause, `ensures { .. }`, `ensures name { .. }`, `ghost { .. }`, or a `ghost use` up to its
-/// end; `at` is the place after the word. None where neither stands there, or the end cannot be told.
+/// The place after what a word of the logic stands before: a clause, `ensures { .. }`, `ensures name { .. }`, `ghost { .. }`, or a `ghost use` up to
+/// its end; `at` is the place after the word. None where neither stands there, or the end cannot be told.
 fn logic(text: &[char], at: usize, word: &str) -> Option<usize> {
     if !["ghost", "requires", "ensures"].contains(&word) {
         return Some(at);
