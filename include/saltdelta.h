@@ -6,8 +6,8 @@
  * Ten functions: a fresh board record and its report, reading a sheet of settings, one step of 10 ms, saving a record's image, carrying
  * an image over from the old firmware and back to it, replaying recorded samples; and the fresh report and the step once more, with the rules that
  * held status and watts. The library keeps nothing between calls and allocates
- * nothing; it needs memcpy and some 10 kB of stack (a saving some 150 bytes). Any number may stand in what is lent, for there is an answer to each; the contracts in
- * crates/saltdelta/src/lib.rt say which, and that is proved. What the board does is docs/SPECIFICATION.md.
+ * nothing; it needs memcpy and some 10 kB of stack (a saving some 150 bytes). Any number may stand in what is lent, for there is an answer
+ * to each; the contracts in crates/saltdelta/src/lib.rt say which, and that is proved. What the board does is docs/SPECIFICATION.md.
  *
  * UNITS (spec 1.2). Voltage: 10000 is nominal. Frequency: mHz. Power: 10000 is the rating. Time: steps of 10 ms.
  *
