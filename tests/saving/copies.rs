@@ -362,6 +362,7 @@ pub const RIGHT: &[Copy] = &[
         "a part of what is lent",
         &[Add(HERE, "fn low<'a>(bytes: &'a [u8], limits: &[rules::Limit]) -> u8 { bytes[0] }"), Put(BYTE, "low(&out[0..4]);")],
     ),
+    right("a struct that holds a part of what is lent", &[Add(HERE, "struct Row<'a> { bytes: &'a [u8], at: usize }"), Put(VALUE, "value: Row)")]),
     right("single bytes", &[Put(BYTE, "b'[' + b'\\'' + '\"' as u8;")]),
     right(
         "a function of a module below",

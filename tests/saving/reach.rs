@@ -88,15 +88,14 @@ impl<'a> Names<'a> {
         self.items(krate, name).into_iter().filter(|&i| matches!(self.source.items[i].what, What::Struct | What::Enum | What::Alias)).collect()
     }
 
-    /// Can a path in this module begin so? With a crate, a module of this one, one that a `use` brings, or a type.
+    /// Can a path in this module begin so? With a crate, a module of this one, a name that a `use` gives to such, or a type.
     fn begins(&self, module: &[String], name: &str) -> bool {
         let krate = &module[0];
-        let brought = self.source.uses.get(module).is_some_and(|uses| uses.iter().any(|u| u.name == name));
         let child = |n: &str| {
             let deeper = |m: &Vec<String>| m.len() > module.len() && m.starts_with(module) && m[module.len()] == n;
             self.source.items.iter().map(|i| &i.module).chain(self.source.uses.keys()).any(deeper)
         };
-        let a_module = |n: &str| child(n) || self.modules.iter().any(|m| m.1 == n && (brought || m.0 == n));
+        let a_module = |n: &str| child(n) || self.modules.contains(&(n, n));
         ["crate", "self", "super"].contains(&name) || self.meant(name).iter().any(|n| a_module(n)) || !self.types(krate, name).is_empty()
     }
 
