@@ -111,7 +111,7 @@ static size_t taken(call made) {
     return most;
 }
 
-/* ---- */
+/* ---- the time */
 
 static double timed(kind steps, unsigned *watts) {
     struct timespec from, to;

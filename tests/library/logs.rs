@@ -147,8 +147,8 @@ pub fn savings(tally: &mut Tally, dice: &mut Dice) {
     }
     let right = full(tally, dice, &mut log);
     tally.reached("log: no room", "at its end, refused with 9", right);
-    for (past, count) in log.placed.into_iter().enumerate() {
-        tally.reached("log: an address", &format!("of {past} modulo 16"), count);
+    for (rest, count) in log.placed.into_iter().enumerate() {
+        tally.reached("log: an address", &format!("of {rest} modulo 16"), count);
     }
     for (k, count) in log.written.into_iter().enumerate() {
         tally.reached("log: byte", &format!("{k} written"), count);

@@ -9,7 +9,7 @@ mod source;
 
 use copies::{changed, Copy, RIGHT, WRONG};
 use lowered::Program;
-use reach::{reach, Finding, Reached};
+use reach::{reach, Reached};
 use source::Source;
 use std::collections::BTreeMap;
 
@@ -56,24 +56,17 @@ fn stands(tally: &mut Tally, reached: &Reached) {
     }
 }
 
-/// What is found in a copy of the source.
-fn found_in(texts: &BTreeMap<String, String>, copy: &Copy) -> Vec<Finding> {
-    let changed = changed(texts, copy).unwrap_or_else(|| panic!("copy '{}': a text that it changes does not stand there once", copy.name));
-    looked_at(&changed).findings
-}
-
-/// A wrong copy is turned down in the item and for the reason that it names.
-fn turned_down(tally: &mut Tally, texts: &BTreeMap<String, String>, copy: &Copy) {
-    let Some((why, item)) = copy.found else { return };
-    let found = found_in(texts, copy);
-    let right = found.iter().any(|f| f.why == why && f.item == item);
-    tally.expect(right, || format!("the wrong copy '{}' is not turned down as {why:?} in {item}: {found:?}", copy.name));
-}
-
-/// A right copy passes, whatever stands beside saving.
-fn passed(tally: &mut Tally, texts: &BTreeMap<String, String>, copy: &Copy) {
-    let found = found_in(texts, copy);
-    tally.expect(found.is_empty(), || format!("the right copy '{}' is turned down: {found:?}", copy.name));
+/// A wrong copy is turned down in the item and for the reason that it names; in a right one nothing is found.
+fn tried(tally: &mut Tally, texts: &BTreeMap<String, String>, copy: &Copy) {
+    let Some(changed) = changed(texts, copy) else {
+        return tally.expect(false, || format!("copy '{}': a text that it changes does not stand there once", copy.name));
+    };
+    let found = looked_at(&changed).findings;
+    let right = match copy.found {
+        Some((why, item)) => found.iter().any(|f| f.why == why && f.item == item),
+        None => found.is_empty(),
+    };
+    tally.expect(right, || format!("copy '{}': {:?} is to be found, and this is: {found:?}", copy.name, copy.found));
 }
 
 /// The functions in which the compiler's account has an array, or that the source test has not reached.
@@ -97,11 +90,8 @@ fn main() -> std::io::Result<()> {
     let mut tally = Tally::default();
     let reached = looked_at(&texts);
     stands(&mut tally, &reached);
-    for copy in WRONG {
-        turned_down(&mut tally, &texts, copy);
-    }
-    for copy in RIGHT {
-        passed(&mut tally, &texts, copy);
+    for copy in WRONG.iter().chain(RIGHT) {
+        tried(&mut tally, &texts, copy);
     }
     println!("copies of the source: {} wrong ones, {} right ones", WRONG.len(), RIGHT.len());
     accounts(&mut tally, &std::fs::read_to_string(&words[2])?, &reached);

@@ -73,14 +73,16 @@ const USES: Place = (IMAGE, "use rules::IMAGE_LENGTH;");
 const COUNTERS: Place = (RULES, "    pub counters: [u32; 9],");
 const BUFFERS: Place = ("crates/buffers/src/lib.rt", "//");
 
-/// Two functions whose contracts have a bracket each that is none.
+/// Two functions whose contracts have brackets that are none: in comments, in quotes, in names, and in a clause that has a name.
 const COMMENTS: &str = "fn low(n: u32) -> u8\n    ensures { ⌜ n ⌝ -- {\n    }\n{ [n as u8][0] }\nfn beside()\n    ensures { ⌜ n ⌝ -- }\n    }\n{ }";
+const QUOTES: &str = "fn low(n: u32) -> u8\n    ensures { ⌜ \"{\" ⌝ }\n{ [n as u8][0] }\nfn beside()\n    ensures { ⌜ \"}\" ⌝ }\n{ }";
 const NAMES: &str = "fn low(n: u32) -> u8\n    ensures { λ «{». ⌜ n ⌝ }\n{ [n as u8][0] }\nfn beside()\n    ensures { λ «}». ⌜ n ⌝ }\n{ }";
 const NAMED: &str = "fn low(n: u32) -> u8\n    ensures right { ⌜ n ⌝ -- /*\n    }\n{ [n as u8][0] }\nfn beside() {\n    // */\n}";
 /// A function with a ghost value and a clause that has a name.
 const GHOST: &str = "fn beside(n: u32) -> u32\n    ghost { ℕ }\n    requires { λ g. ⌜ n ≡ g ⌝ }\n    ensures same { λ g r. ⌜ r ≡ g ⌝ }\n{ n }";
+/// A crate of the kit below `image`.
 const KIT: Change = Put(("crates.txt", "image: rules"), "image: io libc rules");
-const QUOTES: &str = "fn low(n: u32) -> u8\n    ensures { ⌜ \"{\" ⌝ }\n{ [n as u8][0] }\nfn beside()\n    ensures { ⌜ \"}\" ⌝ }\n{ }";
+/// A function, and a method of the record, that make an array.
 const LOW: &str = "pub fn low(n: u32) -> u8 { [n as u8][0] }";
 const BOARD_FRONT: &str = "impl Board { pub fn front(self) -> u8 { let bytes = [self.status]; bytes[0] } }";
 

@@ -47,8 +47,8 @@ struct Names<'a> {
     by_name: BTreeMap<&'a str, Vec<usize>>,
     /// Names that a `use` gives to others.
     given: BTreeMap<&'a str, BTreeSet<&'a str>>,
-    /// The modules by their crates and last names; a crate is a module of itself.
-    modules: BTreeSet<(&'a str, &'a str)>,
+    /// The names of all modules, each part of their paths.
+    modules: BTreeSet<&'a str>,
 }
 
 impl<'a> Names<'a> {
@@ -58,7 +58,7 @@ impl<'a> Names<'a> {
             names.by_name.entry(&item.name).or_default().push(i);
         }
         for module in source.items.iter().map(|i| &i.module).chain(source.uses.keys()) {
-            names.modules.extend(module.iter().map(|part| (module[0].as_str(), part.as_str())));
+            names.modules.extend(module.iter().map(String::as_str));
         }
         for u in source.uses.values().flatten() {
             names.given.entry(&u.name).or_default().extend(u.path.iter().map(String::as_str));
@@ -95,7 +95,7 @@ impl<'a> Names<'a> {
             let deeper = |m: &Vec<String>| m.len() > module.len() && m.starts_with(module) && m[module.len()] == n;
             self.source.items.iter().map(|i| &i.module).chain(self.source.uses.keys()).any(deeper)
         };
-        let a_module = |n: &str| child(n) || self.modules.contains(&(n, n));
+        let a_module = |n: &str| child(n) || self.source.crates.contains(n);
         ["crate", "self", "super"].contains(&name) || self.meant(name).iter().any(|n| a_module(n)) || !self.types(krate, name).is_empty()
     }
 
@@ -117,7 +117,7 @@ impl<'a> Names<'a> {
     /// Does a `use` bring what is in the source?
     fn brings(&self, module: &[String], path: &[String]) -> bool {
         let last = path.iter().rfind(|part| *part != "self").map_or("", String::as_str);
-        let a_module = self.modules.iter().any(|m| m.1 == last);
+        let a_module = self.modules.contains(last) || self.source.crates.contains(last);
         path.first().is_some_and(|first| self.begins(module, first)) && (a_module || !self.items(&module[0], last).is_empty())
     }
 }
@@ -278,7 +278,7 @@ fn astray(names: &Names, crates: &BTreeSet<&String>) -> Vec<Finding> {
     let alone = crates.iter().filter(|c| !source.crates.contains(**c)).map(|c| (vec![c.to_string()], format!("{c}: a crate without source")));
     let uses = source.uses.iter().filter(|u| crates.contains(&u.0[0])).flat_map(|(module, uses)| uses.iter().map(move |u| (module, u)));
     let brought = uses.filter(|(module, u)| !names.brings(module, &u.path)).map(|(m, u)| (m.clone(), format!("use {}", u.path.join("::"))));
-    let unread = source.unread.iter().map(|(module, said)| (module.clone(), said.clone()));
+    let unread = source.unread.iter().filter(|u| crates.contains(&u.0[0])).map(|(module, said)| (module.clone(), said.clone()));
     let finding =
         |(module, said): (Vec<String>, String)| Finding { why: Why::NotFollowed, item: module.join("::"), said: format!("not followed: {said}") };
     alone.chain(brought).chain(unread).map(finding).collect()
