@@ -1,11 +1,16 @@
-//! The comparison program: the job of `board` (docs/SPECIFICATION.md) once more, to be held against the proved one. No code is shared.
+//! The comparison program: the job of `board` (docs/SPECIFICATION.md) once more, to be held against the proved one. No
+//! code is shared.
 //!
-//! Who wrote it from what: it was written from the paper that the board was ordered by (document 01) and then amended from requests 1 to 7
-//! of document 02, one after the other. Each hand had this program, those papers, the interface that the tests call and, from request 2 on,
-//! a list of what to test; none had seen the proved code, its definitions or its design. Beside the papers they were told: that the watts
-//! of a step are limited by the recovery count after it; which lengths an image that is carried over must have, that the result stands at
-//! the target's front and that the bytes behind it stay; the numbers of the rules; the places of side and held power in record and report.
-//! On these points agreement is no evidence. What the papers leave open and a hand decided is marked "Decision:"; what was told, "Told:".
+//! Who wrote it from what. It was first written from document 01, the paper that the board was ordered by, by a hand
+//! that had not seen the proved code, its definitions or its design. Later hands amended it from requests 1 to 7 of
+//! document 02, one at a time. Each worked from this program, document 01 and the requests up to its own. Most had a
+//! list of what to test; those of requests 2, 3 and 6 also had the interface that the tests call. Some things they were
+//! told beside the papers. Request 1: a summary, with one reading that the papers do not state, that the watts of a
+//! step are limited by the recovery count after it. Request 2: which lengths of an image are wrong, where the result
+//! stands, and that the bytes behind it stay. Request 3: the numbers of the rules, that a limit's place is 1 to 8 or 0,
+//! and that a refused step has no rules. Request 6: where side and held power stand, and the number of droop's rule.
+//! Request 7: that its saving might hold bytes between record and buffer. On these points agreement is no evidence. In
+//! the code "Told:" marks such a point, and "Decision:" one that the papers leave open and a hand decided.
 //!
 //!     rustc -O --edition 2021 board.rs            the program `board`
 //!     rustc -O --edition 2021 --test board.rs     its tests
