@@ -1,5 +1,6 @@
--- The second page: the demands are not empty. Wrong boards, operations, readings, images, reports and rules do not meet them (Shams.antt, ShamRefusals.antt,
--- ShamCarryOvers.antt, ShamRules.antt, ShamRamps.antt, ShamDroops.antt). The proof of `X` is `x` in proofs/Caught.antt.
+-- The second page: the demands are not empty. Wrong boards, operations, readings, images, reports and rules, called
+-- shams, do not meet them. The shams are defined in Shams.antt, ShamRefusals.antt, ShamCarryOvers.antt,
+-- ShamRules.antt, ShamRamps.antt and ShamDroops.antt. The proof of `X` is `x` in proofs/Caught.antt.
 -- Assumes nothing.
 use mathlib.Core.Path.{_≡_}
 use mathlib.Core.Bool.{true}
@@ -40,9 +41,9 @@ use Rattle.demands.specs.ShamRules.{waitsAtTrip, lastLimit, bestRegion, 
 use Rattle.demands.specs.ShamRefusals.{refusesLastCode, storesReading, sampleFirst, writesWhatFits, linesFromZero, handsRest}
 use Rattle.demands.specs.Demands.{ours}
 
--- The sham boards of spec 13.6, and two boards that turn away good samples, one moving its record as if it had taken them and one leaving it, do
--- not meet demand 2 on the sheet of spec 10.11: some list of calls tells each of them from ours. That sheet is
--- accepted, so that demand 2, which speaks of every accepted sheet, is false of each of them.
+-- Seven sham boards do not meet demand 2 on the sheet of spec 10.11: some list of calls tells each of them from ours.
+-- Five are those of spec 13.6. Two turn away good samples: one moves its record as if it had taken them, one leaves
+-- it. That sheet is accepted, so that demand 2, which speaks of every accepted sheet, is false of each of them.
 pub record ShamsCaught : Type 0 where
   pub accepted : settingsAccepted (exampleSheet 0) ≡ true
   pub early : ¬ TripAndReturn ourEquipment tripsEarly (exampleSheet 0)
@@ -53,10 +54,13 @@ pub record ShamsCaught : Type 0 where
   pub refusing : ¬ TripAndReturn ourEquipment turnsAway (exampleSheet 0)
   pub leaving : ¬ TripAndReturn ourEquipment turnsAwayLastCode (exampleSheet 0)
 
--- Three shams keep the record and refuse as they should, and show other reports. The first turns every bit over, and fails by its reports alone. The
--- second says `entering` at the step at which it trips, the third always says `tripped`: of the parts of demand 2 that do not compare whole
--- reports the second fails the trip and no other, the third the return and no other. (None can fail the trip or the return alone: a
--- program whose reports are right trips and returns as it should, `RightReportsTrip`.)
+-- Three shams keep the record and refuse as they should, and show other reports.
+--   - The first turns every bit over, and fails by its reports alone.
+--   - The second says `entering` at the step at which it trips. Of the parts of demand 2 that do not compare whole
+--     reports it fails the trip and no other.
+--   - The third always says `tripped`. Of those parts it fails the return and no other.
+-- None can fail the trip or the return alone: a program whose reports are right trips and returns as it should
+-- (`RightReportsTrip`).
 pub record ShamReportsCaught : Type 0 where
   pub bits : (¬ Shows ourEquipment inventsBits (exampleSheet 0)) × Refuses inventsBits (exampleSheet 0) × Keeps ourEquipment inventsBits (exampleSheet 0)
       × Trips ourEquipment inventsBits (exampleSheet 0) × Returns ourEquipment inventsBits (exampleSheet 0)
@@ -66,8 +70,10 @@ pub record ShamReportsCaught : Type 0 where
   pub returns : (¬ Returns ourEquipment saysTripped (exampleSheet 0)) × Refuses saysTripped (exampleSheet 0) × Keeps ourEquipment saysTripped (exampleSheet 0)
       × Trips ourEquipment saysTripped (exampleSheet 0) × ReturnsContinuous ourEquipment saysTripped (exampleSheet 0)
 
--- Demand 3 is false of an image with 0 in the ramp count's place, of one with 0 in the ninth counter's, of one with 40 in the recovery count's, of one with 0 in the side's and of one with 0 in the held power's: equal
--- images, different reports, now or later; and of a report whose bits are always 0: equal reports, different images. Each on an example sheet, which is accepted.
+-- Demand 3 is false of five sham images: 0 in place of the ramp count, of the ninth counter, of the side or of the
+-- held power, and 40 in place of the recovery count. They are equal where the reports differ, now or later. It is
+-- false too of a report whose bits are always 0: equal reports, different images. Each on an example sheet, which is
+-- accepted.
 pub record ShamImagesCaught : Type 0 where
   pub accepted : (settingsAccepted (exampleSheet 0) ≡ true) × (settingsAccepted (exampleSheet 2) ≡ true)
   pub ramp : ¬ TwoHistoriesBy savedWithoutRamp (historyReport ourEquipment) ours (exampleSheet 0)
@@ -77,8 +83,10 @@ pub record ShamImagesCaught : Type 0 where
   pub held : ¬ TwoHistoriesBy savedWithoutHeld (historyReport ourEquipment) ours (exampleSheet 0)
   pub bits : ¬ TwoHistoriesBy savedInto reportWithoutBits ours (exampleSheet 0)
 
--- Five samples are enough for two ramp counts, and four are not: that some pair needs six is refuted by `OurRampsTold`, and that four are always enough by `OurRampsUntold`. A board whose ramps are a step
--- longer than its sheet's, and whose reports are those of such ramps, has a pair that five samples do not tell. Reports that show the ramp count in the share's place tell every pair at once.
+-- Five samples are enough for two ramp counts, and four are not. That some pair needs six is refuted by
+-- `OurRampsTold`, and that four are always enough by `OurRampsUntold`. A board whose ramps are a step longer than its
+-- sheet's, and whose reports are those of such ramps, has a pair that five samples do not tell. Reports that show the
+-- ramp count in the share's place tell every pair at once.
 pub record ShamRampsCaught : Type 0 where
   pub six : ¬ RampsUntold ourEquipment ours 5
   pub four : ¬ RampsTold ourEquipment ours 4
@@ -87,15 +95,16 @@ pub record ShamRampsCaught : Type 0 where
       → runOf sixSamples cs .report ≡ reportOf (reportLonger st (acceptedSamples cs))
   pub counted : ¬ RampsUntoldBy savedInto reportCounted ours 0
 
--- Three shams do not restore power as they should: one shows a full recovery count at once; one counts as it should and gives all at once; one counts as it
--- should and gives nothing until the count is full.
+-- Three shams do not restore power as they should. One shows a full recovery count at once. One counts as it should
+-- and gives all at once. One counts as it should and gives nothing until the count is full.
 pub record ShamRecoveryCaught : Type 0 where
   pub shown : ¬ RestoresPower ourEquipment (exampleSheet 0) (reportFullAtOnce (exampleSheet 0))
   pub unheld : ¬ RestoresPower ourEquipment (exampleSheet 0) (reportUnheld (exampleSheet 0))
   pub withheld : ¬ RestoresPower ourEquipment (exampleSheet 0) (reportWithheld (exampleSheet 0))
 
--- Five shams do not do as they should at such frequencies: one goes on giving power far outside; two cease at an end that still belongs to ride-through, 57000 and 62000; one shows momentary
--- cessation; and the limits' counters of one stop far outside, which is demand 2's to find.
+-- Five shams do wrong where the frequency is far outside. One goes on giving power there. Two cease at an end that
+-- still belongs to ride-through, 57000 and 62000. One shows momentary cessation. The limits' counters of the fifth
+-- stop there, which is demand 2's to find.
 pub record ShamRideThroughEndsCaught : Type 0 where
   pub riding-on : ¬ CeasesBeyondRideThrough ourEquipment (reportRidingOn (exampleSheet 0))
   pub low-end : ¬ CeasesBeyondRideThrough ourEquipment (reportCeasingAt 57000 (exampleSheet 0))
@@ -103,8 +112,11 @@ pub record ShamRideThroughEndsCaught : Type 0 where
   pub momentary : ¬ CeasesBeyondRideThrough ourEquipment (reportMomentary (exampleSheet 0))
   pub stopped : ¬ TripAndReturn ourEquipment stopsCounting (exampleSheet 0)
 
--- Seven shams do not droop as they should. By what they hold: the watts before each step of an event; those of its first step; what was held on the other side. By their watts: the operator's limit still binds; the quotient is
--- rounded up. By their side: none at 60037; one that stays through a trip.
+-- Seven shams do not droop as they should.
+--   - By what they hold: the watts before each step of an event; those of its first step; what was held on the other
+--     side.
+--   - By their watts: the operator's limit still binds; the quotient is rounded up.
+--   - By their side: none at 60037; one that stays through a trip.
 pub record ShamDroopsCaught : Type 0 where
   pub anew : ¬ Droops ourEquipment (exampleSheet 0) (reportHeldAnew (exampleSheet 0))
   pub own : ¬ Droops ourEquipment (exampleSheet 0) (reportHeldOwn (exampleSheet 0))
@@ -114,9 +126,10 @@ pub record ShamDroopsCaught : Type 0 where
   pub ended-early : ¬ Droops ourEquipment (exampleSheet 0) (reportEndedEarly (exampleSheet 0))
   pub side-kept : ¬ Droops ourEquipment (exampleSheet 0) (reportSideKept (exampleSheet 0))
 
--- Demand 1 is false of operations that refuse a good sample and leave the record; that refuse as they should and change the record; that look at
--- the sample before the settings; and that write into a buffer which they refuse. It is false of a reading that turns away a good sheet, and of
--- one that refuses as it should with another line, whatever they hand back; and of our reading with another part handed back.
+-- Demand 1 is false of four shams among operations: one refuses a good sample and leaves the record; one refuses as
+-- it should and changes the record; one looks at the sample before the settings; one writes into a buffer which it
+-- refuses. It is false of a reading that turns away a good sheet, and of one that refuses as it should with another
+-- line, whatever they hand back; and of our reading with another part handed back.
 pub record ShamRefusalsCaught : Type 0 where
   pub sample : ¬ RefusesRightly refusesLastCode
   pub changed : ¬ RefusesRightly storesReading
@@ -126,10 +139,13 @@ pub record ShamRefusalsCaught : Type 0 where
   pub line : (handed : List ℕ → List ℕ) → ¬ SheetsRefusedRightly linesFromZero handed
   pub part : ¬ SheetsRefusedRightly readSheet handsRest
 
--- A reading that refuses a wait of 0 turns away the sheet of spec 10.11, and one that takes a sheet whose last line is unended
--- accepts more than sheets. One that finds no form in a line with a number above 100000 would give 1 in place of 2. Answers that step on an
--- unended sample line, or on one with a carriage return before its line feed, take more than samples. A board that takes a lent record as it stands
--- does not read it.
+-- Six shams do not read as they should.
+--   - A reading that refuses a wait of 0 turns away the sheet of spec 10.11.
+--   - One that takes a sheet whose last line is unended accepts more than sheets.
+--   - One that finds no form in a line with a number above 100000 would give 1 in place of 2.
+--   - Answers that step on an unended sample line, or on one with a carriage return before its line feed, take more
+--     than samples.
+--   - A board that takes a lent record as it stands does not read it.
 pub record ShamReadingsCaught : Type 0 where
   pub goodSheet : ¬ ReadsSheetsBack refusesNoWait
   pub unended : ¬ AcceptsSheetsOnly takesUnended
@@ -138,13 +154,17 @@ pub record ShamReadingsCaught : Type 0 where
   pub carriageReturn : ¬ AnswersSamples stepsPastReturn
   pub asLent : ¬ ReadsRecords ourEquipment takesAsLent
 
--- A program that goes on after a refused sheet, by the default settings, and one that prints nothing for it, print something else than they should.
+-- Two shams print something else than they should: a program that goes on after a refused sheet, by the default
+-- settings, and one that prints nothing for it.
 pub record ShamPrintingsCaught : Type 0 where
   pub goes-on : ¬ PrintsByHistory ourEquipment goesOn
   pub nothing : ¬ PrintsByHistory ourEquipment saysNothing
 
--- Six shams do not carry over as they should. By their refusals: 11 looked for before 10, 9 before 11, and a target written and then refused. By the round trips: 39
--- appended in place of 40, and any last bytes left out. The sixth swaps two bytes both ways: it refuses as it should and its round trips hold, and only the images of records tell it from ours.
+-- Six shams do not carry over as they should.
+--   - By their refusals: 11 looked for before 10, 9 before 11, and a target written and then refused.
+--   - By the round trips: 39 appended in place of 40, and any last bytes left out.
+--   - The sixth swaps two bytes both ways. It refuses as it should and its round trips hold; only the images of
+--     records tell it from ours.
 pub record ShamCarryOversCaught : Type 0 where
   pub added-first : ¬ CarryRefusedRightly ourForward addedFirst
   pub room-first : ¬ CarryRefusedRightly ourForward roomFirst
@@ -153,8 +173,9 @@ pub record ShamCarryOversCaught : Type 0 where
   pub dropped : ¬ RoundTrips ourForward dropsAny
   pub swaps : CarryRefusedRightly swapsForward swapsBack × RoundTrips swapsForward swapsBack × (¬ CarriesRecords swapsForward swapsBack)
 
--- Six shams do not name the rules as they should: the wait named at the step of a trip; the last limit in place of the first where two have run out; the cause of the best region; the last limit of
--- the watts in place of the first among equals; droop listed last in an event; and the status named in mandatory operation.
+-- Six shams do not name the rules as they should: the wait named at the step of a trip; the last limit in place of
+-- the first where two have run out; the cause of the best region; the last limit of the watts in place of the first
+-- among equals; droop listed last in an event; and the status named in mandatory operation.
 pub record ShamRulesCaught : Type 0 where
   pub waits : ¬ NamesStatusRule ourEquipment (exampleSheet 0) (waitsAtTrip (exampleSheet 0))
   pub turned : ¬ NamesStatusRule ourEquipment (exampleSheet 0) (lastLimit (exampleSheet 0))

@@ -1,20 +1,23 @@
--- What is proved of the board: the page to open first. Each name below is a statement; the proof of `X` is `x` in proofs/Demands.antt. That the
--- statements are not empty is the second page, Caught.antt.
+-- What is proved of the board: the page to open first. Each name below is a statement. The proof of `X` is `x` in
+-- proofs/Demands.antt. The second page, Caught.antt, shows that the statements are not empty.
 --
--- `ours` is what the code's contracts promise, and a demand holds of the code through them. `fresh` is the result of `service::fresh`,
--- `stepOf ourEquipment` that of `service::step::step`, `saveCheck` and `savedInto` those of `image::save`, `settingsCheck` that of `settings::check`, `sensed` that of `sensing::sense`, `readSheet` and `handedBack`
--- those of `reader::read_sheet` (and of `sheet::read` and `sheet::part`), `forwardAnswer` and `forwardInto` those of `carryover::forward`, `backAnswer` and `backInto` those of
--- `carryover::back`, `freshAnswer` and `explainedStep ourEquipment` those of `explain::fresh_answer` and `explain::step::step`, `respondOf ourEquipment` that of `respond::respond`. Each of those
--- contracts is proved in its crate for every record, settings, slice, code, buffer, state and text there can be; `CodeContracts`, at the
--- end, states that they say these words.
--- The exported functions, for C and Rust, promise the same words: `saltdelta_fresh` gives `fresh`; the number, record and report of
--- `saltdelta_step` are those of `stepOf ourEquipment`, the answer and settings of `saltdelta_read_sheet` those of `readSheet` and `handedBack`
--- (saltdelta/specs/Answers.antt); `saltdelta_step_explained` has the same number, record and report, and the rules of `explainedStep ourEquipment` in numbers, `saltdelta_fresh_explained` those of `freshAnswer`
--- (saltdelta/specs/Explained.antt); `saltdelta_save` has `saveCheck` and `savedInto`, `saltdelta_carry_forward` and `saltdelta_carry_back` have
--- the numbers of `forwardAnswer` and `backAnswer`, and `forwardInto` and `backInto`. A refused one leaves record, report, settings, buffer and target as they
--- were lent: `ExportedRefusals`.
--- `ourEquipment` is the sensing rule of spec 2.2 and the voltage regions of spec 6.7. The words of the statements are defined in the crates
--- `claims`, `rules`, `roots`, `formats`, `program`, `carryover`, `explain`, `replay` and `saltdelta`, those of the contracts in `sheet`, `reader`, `respond`, `buffers` and `text` too.
+-- How the page speaks of the code. A statement is about definitions, and each public operation has a contract that is
+-- an equation with one of them, proved in its own crate for every input there can be. `CodeContracts`, at the end,
+-- states that the contracts say these words.
+--   - `fresh` is what `service::fresh` gives.
+--   - `stepOf ourEquipment` is what `service::step::step` answers and leaves.
+--   - `saveCheck` and `savedInto` are what `image::save` answers and writes.
+--   - `settingsCheck` is what `settings::check` answers, `sensed` what `sensing::sense` does.
+--   - `readSheet` and `handedBack` are what `reader::read_sheet` gives, and `sheet::read` with `sheet::part`.
+--   - `forwardAnswer` and `forwardInto`, `backAnswer` and `backInto` are what `carryover::forward` and
+--     `carryover::back` answer and write.
+--   - `freshAnswer` and `explainedStep ourEquipment` are what `explain::fresh_answer` and `explain::step::step` give.
+--   - `respondOf ourEquipment` is what `respond::respond` makes of a block.
+-- The exported functions, for C and Rust, promise the same words (saltdelta/specs/Answers.antt, Explained.antt). A
+-- refused one leaves all that was lent as it was: `ExportedRefusals`.
+--
+-- `ourEquipment` is the sensing rule of spec 2.2 with the voltage regions of spec 6.7. docs/PROOF.md lists the files
+-- that define the words of this page.
 -- Assumes nothing.
 use mathlib.Core.Path.{_≡_}
 use mathlib.Core.Bool.{true}
@@ -96,67 +99,79 @@ ourOperations = operationsBy ourEquipment
 
 -- ---- the three demands
 
--- Demand 1, for the library: `RefusesRightly` in claims/specs/FirstCause.antt, of our operations. Checking settings, sensing, the step and the
--- saving refuse with n exactly when n is the first cause in the order of spec 11.2, accept input with none of the causes, and a refusal leaves
--- the record's fields and every byte of a lent slice or buffer as they were. (That the operations stay inside their buffers and their
--- arithmetic and end is part of each function's own proof.)
+-- Demand 1, the library: `RefusesRightly` in claims/specs/FirstCause.antt, of our operations. Checking settings,
+-- sensing, the step and the saving refuse with n exactly when n is the first cause in the order of spec 11.2. Input
+-- with no cause is accepted. A refusal leaves the record's fields and every byte of a lent slice or buffer as they
+-- were. (That the operations stay inside their buffers and their arithmetic, and end, is part of each function's own
+-- proof.)
 abbrev pub OurRefusals : Type 0
 OurRefusals = RefusesRightly ourOperations
 
--- Demand 1, for reading a sheet: `SheetsRefusedRightly` in claims/specs/SheetCauses.antt, of our reading and of what it hands back. Any text is
--- refused with n at a line exactly when that is the first line with a cause and n the first of its causes 1, 2, 3, and accepted exactly when none
--- of the thirteen lines has a cause; what is handed back is that line of the text, at its place there, a missing one at the end, or what
--- follows an accepted sheet.
+-- Demand 1, reading a sheet: `SheetsRefusedRightly` in claims/specs/SheetCauses.antt, of our reading and of what it
+-- hands back. A text is refused with n at a line exactly when that is the first line with a cause, and n the first of
+-- its causes 1, 2, 3. It is accepted exactly when none of the thirteen lines has a cause. What is handed back is the
+-- refused line at its place in the text, a missing one at the end, or what follows an accepted sheet.
 abbrev pub OurSheetRefusals : Type 0
 OurSheetRefusals = SheetsRefusedRightly readSheet handedBack
 
--- Demand 1, for the program: `TranscriptLaw` in program/specs/Sessions.antt. However an input is cut into blocks, and whatever buffers are lent,
--- what `respond` writes, put together, is the transcript of the input's first 10^12 bytes (rules/specs/Transcripts.antt): a sheet's first
--- refusal with its line, ending all; or an answer for each line after the sheet, refusals with their line numbers, an unended last
--- line and lines of any length among them. A call handles as many lines as are there and fit, and leaves no more than 128 bytes of a
--- begun line; among the samples it writes the answers to the lines that it takes, then and there, the call that takes the sheet's last
--- line too; a refused sheet ends all as soon as its line has its line feed and no whole line is left; and once the input has ended, as many calls with room
--- for a line as there are bytes left, and one, finish.
+-- Demand 1, the program: `TranscriptLaw` in program/specs/Sessions.antt. However an input is cut into blocks, and
+-- whatever buffers are lent, what `respond` writes, put together, is the transcript of the input's first 10^12 bytes
+-- (rules/specs/Transcripts.antt). The transcript is a sheet's first refusal with its line, which ends all; or an
+-- answer for each line after the sheet, an unended last line and lines of any length among them. And further:
+--   - A call handles as many lines as are there and fit, and leaves no more than 128 bytes of a begun line.
+--   - Among the samples it writes the answers to the lines that it takes, then and there. So does the call that takes
+--     the sheet's last line.
+--   - A refused sheet ends all as soon as its line has its line feed and no whole line is left.
+--   - Once the input has ended, as many calls with room for a line as there are bytes left, and one, finish.
 abbrev pub OurTranscript : Type 0
 OurTranscript = TranscriptLaw ourEquipment
 
--- Demand 1, for the program's loop: `StandingLaw` in program/specs/Standing.antt. The contract of `board::run` (`Runs` in board/specs/Loop.antt) has a session of
--- `respond` that stands where the run ended, to which as many bytes came as were read, and which has said as many as were handed to the
--- writing. Of every session that stands: as many bytes came as it has taken and are left; where all is done, as at the end of every run in which no
--- read and no write failed, it has said the transcript of what came; in any case it has said a beginning of the transcript.
+-- Demand 1, the program's loop: `StandingLaw` in program/specs/Standing.antt. The contract of `board::run` (`Runs` in
+-- board/specs/Loop.antt) has a session of `respond` that stands where the run ended. As many bytes came to it as were
+-- read, and it has said as many as were handed to the writing. Of every session that stands:
+--   - As many bytes came as it has taken and are left.
+--   - Where all is done, it has said the transcript of what came. So it is at the end of every run in which no read
+--     and no write failed.
+--   - In any case it has said a beginning of the transcript.
 abbrev pub OurSessions : Type 0
 OurSessions = StandingLaw ourEquipment
 
--- Demand 2: `TripAndReturn` in claims/specs/TripAndReturn.antt. Under every accepted sheet, for every list of step calls, refused ones
--- included, on one record from a fresh board: the last report is the one that the accepted samples alone give, in their order, and so
--- is the answer to every accepted call; the record is the one that they give; in service, the board trips at a step exactly when
--- permission is off or one of the eight limits has been broken at each of the last samples of its whole clearing time, ending there;
--- tripped, it returns exactly when each of the last samples of its full wait, a wait of 0 being one step, was in range with
--- permission on; and a return is always in the continuous operation region.
+-- Demand 2: `TripAndReturn` in claims/specs/TripAndReturn.antt. Under every accepted sheet, for every list of step
+-- calls, refused ones included, on one record from a fresh board:
+--   - The last report is the one that the accepted samples alone give, in their order; so is the answer to every
+--     accepted call; and so is the record.
+--   - In service, the board trips at a step exactly when permission is off there, or when one of the eight limits was
+--     broken at each of the last samples of its whole clearing time, the step's own included.
+--   - Tripped, it returns exactly when each of the last samples of its full wait was in range with permission on. A
+--     wait of 0 is one step.
+--   - A return is always in the continuous operation region.
 abbrev pub OurTripAndReturn : Type 0
 OurTripAndReturn = Demand2 ourEquipment ours
 
--- Demand 3, one claim about two whole lists: `TwoHistoriesBy` in claims/specs/TwoHistories.antt. For every accepted sheet and every two lists
--- of step calls (spec 12.1, 12.2), each list on its own record from a fresh board: the images saved after them, each into a buffer that 9 lets
--- pass, are equal byte for byte exactly when, for every common run of 0 to 100,000 accepted samples, the reports at its end, as the accepted
--- samples alone give them, are equal in every item.
+-- Demand 3, one claim about two whole lists: `TwoHistoriesBy` in claims/specs/TwoHistories.antt. Take any accepted
+-- sheet and any two lists of step calls (spec 12.1, 12.2), each on its own record from a fresh board. The images
+-- saved after them, each into a buffer that 9 lets pass, are equal byte for byte exactly when the reports are equal
+-- in every item at the end of every common run of 0 to 100,000 accepted samples. These reports are the ones that the
+-- accepted samples alone give.
 abbrev pub OurTwoHistories : Type 0
 OurTwoHistories = Demand3 ourEquipment ours
 
 -- ---- what is accepted, without a parser
 
--- Good sheets are read: `ReadsSheetsBack` in formats/specs/Sheets.antt. Settings that 2 and 3 pass, written out as the thirteen
--- lines of spec 3.2, each ended by a line feed (`writtenSheet`), are accepted whatever bytes follow (spec 3.8), with those settings, and the reading ends where the sheet does. A reading that turns away a good sheet does not meet this.
+-- Good sheets are read: `ReadsSheetsBack` in formats/specs/Sheets.antt. Take settings that 2 and 3 pass, written out
+-- as the thirteen lines of spec 3.2, each ended by a line feed (`writtenSheet`). They are accepted whatever bytes
+-- follow (spec 3.8), with those settings, and the reading ends where the sheet does. A reading that turns away a good
+-- sheet does not meet this.
 abbrev pub SheetsReadBack : Type 0
 SheetsReadBack = ReadsSheetsBack readSheet
 
--- Nothing else is: `AcceptsSheetsOnly`. Every accepted text begins with the writing-out of the settings that are read from it, and 2 and 3
--- pass them.
+-- Nothing else is: `AcceptsSheetsOnly`. Every accepted text begins with its settings written out, and 2 and 3 pass
+-- them.
 abbrev pub SheetsWrittenOut : Type 0
 SheetsWrittenOut = AcceptsSheetsOnly readSheet
 
--- So there is no choice in what is accepted: every reading with these two properties accepts the same texts as ours, with the same
--- settings and place.
+-- So there is no choice in what is accepted. Every reading with these two properties accepts the same texts as ours,
+-- with the same settings and place.
 abbrev pub OneSheetReading : Type 0
 OneSheetReading =
     (read : List ℕ → SheetReading) → ReadsSheetsBack read → AcceptsSheetsOnly read → (s : List ℕ) → AcceptAlike (read s) (readSheet s)
@@ -165,22 +180,23 @@ OneSheetReading =
 abbrev pub DefaultSheetWritten : Type 0
 DefaultSheetWritten = writtenSheet defaultSettings ≡ defaultSheet
 
--- "Accepted sheet" in demands 2 and 3, tied to text: under the settings of every accepted text the board trips and returns as demand 2
--- says, and two histories are told apart as demand 3 says.
+-- "Accepted sheet" in demands 2 and 3, tied to text. Under the settings of every accepted text the board trips and
+-- returns as demand 2 says, and two histories are told apart as demand 3 says.
 abbrev pub UnderAcceptedTexts : Type 0
 UnderAcceptedTexts =
     (s : List ℕ) → readSheet s .check ≡ SettingsCheck.Accepted
     → TripAndReturn ourEquipment ours (readSheet s .settings) × TwoHistoriesBy savedInto (historyReport ourEquipment) ours (readSheet s .settings)
 
--- The forms of the lines, which tell 1 from 2 and 3: `ReadsForms` in formats/specs/Marks.antt, of the sheet's thirteen forms and the sample's. A
--- line has its form, with these numbers, exactly when it is the form with these numbers in the marks' places: numbers of 1 to 6 digits without
--- leading zeros, a minus only before a nonzero number at `~`.
+-- The forms of the lines, which tell 1 from 2 and 3: `ReadsForms` in formats/specs/Marks.antt, of the sheet's
+-- thirteen forms and the sample's. A line has its form, with these numbers, exactly when it is the form with these
+-- numbers in place of the marks. Numbers have 1 to 6 digits and no leading zero, and a minus only before a nonzero
+-- number at `~`.
 abbrev pub LinesOfForms : Type 0
 LinesOfForms = ReadsForms numbersOf
 
--- Sample lines, `(at (CODE CODE CODE) FREQ PERMIT AVAILABLE LIMIT)`: `AnswersSamples` in formats/specs/Samples.antt. Seven numbers of at most
--- six digits, written out and ended, are answered as the sample is. A line is refused with 8, and is no step, exactly when it is no such
--- line: unended, or another in any byte.
+-- Sample lines, `(at (CODE CODE CODE) FREQ PERMIT AVAILABLE LIMIT)`: `AnswersSamples` in formats/specs/Samples.antt.
+-- Seven numbers of at most six digits, written out and ended, are answered as the sample is. A line is refused with
+-- 8, and is no step, exactly when it is no such line: unended, or another in any byte.
 abbrev pub SampleLinesAnswered : Type 0
 SampleLinesAnswered = AnswersSamples lineStep
 
@@ -193,8 +209,9 @@ OneSampleAnswer =
 abbrev pub AcceptedSamplesWritable : Type 0
 AcceptedSamplesWritable = (x : Slice) → sampleAccepted x ≡ true → writable x ≡ true
 
--- Where sample lines stand in a text: `ReadsBack` and `BeginsWithSample` in formats/specs/Samples.antt. A sample written out, with its line feed, is
--- the first line of the text that it begins, whatever follows; and a text with that first line begins so.
+-- Where sample lines stand in a text: `ReadsBack` and `BeginsWithSample` in formats/specs/Samples.antt. A sample
+-- written out, with its line feed, is the first line of the text that it begins, whatever follows. And a text with
+-- that first line begins so.
 abbrev pub SampleLinesReadBack : Type 0
 SampleLinesReadBack = (x : Slice) (after : List ℕ) → writable x ≡ true → ReadsBack x after
 
@@ -204,29 +221,36 @@ SampleLinesWrittenOut =
 
 -- ---- demand 2 of what is printed
 
--- `PrintsByHistory` in claims/specs/Printed.antt. For every input whose sheet, in its first 10^12 bytes, is refused, the transcript is the sheet's
--- refusal line and nothing else. For every input with an accepted sheet there it is an answer for each line after the sheet, one after the
--- other. A line that is an accepted sample has the report line of what it and the accepted samples before
--- it, on whichever lines, alone give; any other line has the refusal line with its first cause and its number, and is no step. So
--- of the status words that are printed: after a report that says another word than `tripped`, the next report says `tripped` exactly when
--- permission is off or a limit was broken at each of the last samples of its whole clearing time; after one that says `tripped`, or none, the next says
--- another word exactly when each of the last samples of the full wait was in range with permission on, and always in the continuous operation region.
+-- `PrintsByHistory` in claims/specs/Printed.antt. An input whose sheet, in its first 10^12 bytes, is refused has the
+-- sheet's refusal line as its transcript and nothing else. After an accepted sheet there is an answer for each line,
+-- one after the other:
+--   - A line that is an accepted sample has the report line that it and the accepted samples before it, on whichever
+--     lines, alone give.
+--   - Any other line has the refusal line with its first cause and its number, and is no step.
+-- So of the status words that are printed:
+--   - After a report with another word than `tripped`, the next says `tripped` exactly when permission is off, or a
+--     limit was broken at each of the last samples of its whole clearing time.
+--   - After one that says `tripped`, or none, the next says another word exactly when each of the last samples of the
+--     full wait was in range with permission on; and then in the continuous operation region.
 abbrev pub OurPrinted : Type 0
 OurPrinted = PrintsByHistory ourEquipment (transcript ourEquipment)
 
--- So there is no choice in what is printed: every program with this property prints, whatever the input, what ours does.
+-- So there is no choice in what is printed. Every program with this property prints, whatever the input, what ours
+-- does.
 abbrev pub OnePrinting : Type 0
 OnePrinting =
     (print : List ℕ → List ℕ) → PrintsByHistory ourEquipment print → (input : List ℕ) → print input ≡ transcript ourEquipment input
 
--- However an input is cut, what a session of `respond` has said once all is done is what every program with this property prints for the input.
+-- However an input is cut, what a session of `respond` has said once all is done is what every program with this
+-- property prints for the input.
 abbrev pub SessionsPrinted : Type 0
 SessionsPrinted =
     (print : List ℕ → List ℕ) → PrintsByHistory ourEquipment print
     → (cs : List Delivery) (sizes : List ℕ) → isDone (ending ourEquipment (during ourEquipment opened cs) sizes .state) ≡ true
     → ending ourEquipment (during ourEquipment opened cs) sizes .text ≡ print (inputOf cs)
 
--- A line's sample there (`sampleOn`) is x exactly when the line is x written out and ended, x having seven numbers of at most six digits.
+-- A line's sample there (`sampleOn`) is x exactly when the line is x written out and ended, x having seven numbers of
+-- at most six digits.
 abbrev pub SamplesOnLines : Type 0
 SamplesOnLines = (l : Line) (x : Slice) → (sampleOn l ≡ some x) ↔ ((writable x ≡ true) × (l ≡ ended (writtenSample x)))
 
@@ -237,8 +261,9 @@ StatusWordsTell =
 
 -- ---- the bits of a report
 
--- `UnpacksBits` in claims/specs/Bits.antt. The bits of a report make one number; none is lost: as many bits that make the same number are the same,
--- the nine digits that are printed are the nine bits in their order, and the number's bit at place 8 - i is bit i.
+-- `UnpacksBits` in claims/specs/Bits.antt. The bits of a report make one number, and none is lost. Lists of as many
+-- bits that make the same number are the same; the nine digits that are printed are the nine bits in their order; and
+-- the number's bit at place 8 - i is bit i.
 abbrev pub BitsUnpacked : Type 0
 BitsUnpacked = UnpacksBits
 
@@ -254,9 +279,9 @@ OurTwoHistoriesReported = Demand3By savedInto (λ st h. reportOf (historyReport 
 
 -- ---- how a lent record is read
 
--- `ReadsRecords` in claims/specs/LentRecords.antt. An accepted call on a lent record answers and leaves what it does on the record as that is read
--- (`readAs` in rules/specs/Records.antt); a refused one leaves it as it was lent. Reading twice is reading once, and a record that calls have left,
--- from a fresh board on, is read as it is.
+-- `ReadsRecords` in claims/specs/LentRecords.antt. An accepted call on a lent record answers and leaves what it does
+-- on the record as that is read (`readAs` in rules/specs/Records.antt). A refused one leaves it as it was lent.
+-- Reading twice is reading once, and a record that calls have left, from a fresh board on, is read as it is.
 abbrev pub OurLentRecords : Type 0
 OurLentRecords = ReadsRecords ourEquipment ours
 
@@ -274,13 +299,15 @@ RightReportsTrip = (e : Equipment) (p : Program) (st : Settings) → Shows e p s
 abbrev pub EveryCounter : Type 0
 EveryCounter = (r : Rule) → CounterRule r
 
--- The sensing rule without a search: a code's voltage has a square of at most code × 100,000, and the next number has not.
+-- The sensing rule without a search: a code's voltage has a square of at most code × 100,000, and the next number has
+-- not.
 abbrev pub SensingRule : Type 0
 SensingRule = (code : ℕ) → code ≤ lastCode → IsRoot (code * 100000) (voltage code)
 
--- Watts and vars without a search: `LargestBeside`, `FollowsPoints` in claims/specs/Powers.antt. What the nameplate leaves beside vars of up to 10000
--- fits the rating, and nothing above it does. A curve has each point's power at its voltage, is flat outside its points, and between two of them lies within their powers,
--- off the exact line by less than one, toward the left point's power. The points of an accepted sheet rise, so this is so of its two curves, and
+-- Watts and vars without a search: `LargestBeside`, `FollowsPoints` in claims/specs/Powers.antt. What the nameplate
+-- leaves beside vars of up to 10000 fits the rating, and nothing above it does. A curve has each point's power at its
+-- voltage and is flat outside its points. Between two of them it lies within their powers, off the exact line by less
+-- than one, toward the left point's power. The points of an accepted sheet rise. So this holds of its two curves, and
 -- of the nameplate beside whatever its volt-var curve gives.
 pub record PowerLaws : Type 0 where
   pub leaves : (vars : ℤ) → natAbs vars ≤ 10000 → LargestBeside vars (nameplate vars)
@@ -294,59 +321,79 @@ pub record PowerLaws : Type 0 where
   pub watts : (st : Settings) → settingsAccepted st ≡ true → (v : ℕ) → pos (natAbs (curve (st .watt) v)) ≡ curve (st .watt) v
   pub beside-vars : (st : Settings) → settingsAccepted st ≡ true → (v : ℕ) → LargestBeside (curve (st .var) v) (nameplate (curve (st .var) v))
 
--- Power back after a cessation, as the standard asks within 0.4 s: `RestoresPower` in claims/specs/Recovery.antt, of the reports of histories, which demand 2
--- ties to the board's. After k samples in a row that give power, k up to 40, behind a cessation, the recovery count is k and lets exactly 250 × k through; after
--- forty in a row, whatever was before them, it is 40. Where power is given the watts are what the other limits leave, or what the count lets through where
--- that is less; at 40 they are what the others leave.
+-- Power back after a cessation, as the standard asks within 0.4 s: `RestoresPower` in claims/specs/Recovery.antt, of
+-- the reports of histories, which demand 2 ties to the board's. After k samples in a row that give power, k up to 40,
+-- behind a cessation, the recovery count is k and lets exactly 250 × k through. After forty in a row it is 40,
+-- whatever was before them. Where power is given, the watts are what the other limits leave, or what the count lets
+-- through where that is less; at 40 they are what the others leave.
 abbrev pub OurRecovery : Type 0
 OurRecovery = (st : Settings) → settingsAccepted st ≡ true → RestoresPower ourEquipment st (historyReport ourEquipment st)
 
--- No power where the frequency is far outside, below 57.0 Hz or above 62.0 Hz, where the standard asks for no ride-through: `CeasesBeyondRideThrough` in claims/specs/RideThroughEnds.antt, of the reports
--- of histories too. Whatever the voltages and whatever came before, there are no watts and no vars there; a board that is in service after the sample ceases to energize, with a recovery count of
--- 0; a tripped one does not return. From 57000 to 62000, both included, the frequency is no reason to stop: in service the status is one that gives power exactly where neither voltage's region is
--- a cessation. (Counters run there as anywhere: what `keeps` and `trips` of demand 2 count asks after no region.)
+-- No power where the frequency is far outside, below 57.0 Hz or above 62.0 Hz, where the standard asks for no
+-- ride-through: `CeasesBeyondRideThrough` in claims/specs/RideThroughEnds.antt, of the reports of histories too.
+-- There are no watts and no vars there, whatever the voltages and whatever came before. A board that is in service
+-- after the sample ceases to energize, with a recovery count of 0; a tripped one does not return. From 57000 to
+-- 62000, both included, the frequency is no reason to stop: in service the status is one that gives power exactly
+-- where neither voltage's region is a cessation. (Counters run there as anywhere: what `keeps` and `trips` of demand
+-- 2 count asks after no region.)
 abbrev pub OurRideThroughEnds : Type 0
 OurRideThroughEnds = (st : Settings) → settingsAccepted st ≡ true → CeasesBeyondRideThrough ourEquipment (historyReport ourEquipment st)
 
--- Frequency droop, for the network owners: `Droops` in claims/specs/Droop.antt, of the reports of histories too. In service above 60036 mHz a board is in an event on side 1, below 59964 on side 2, the step of its
--- return included; in the deadband between, and when tripped, there is none. Throughout an event the held power is the watts of the last report before it. Where power is given in one, the watts are the least of what
--- volt-watt curve, nameplate, recovery and available power leave, and of the held power less or plus ten thirds of the distance, off by less than one and not below 0; operator's limit and share do not bind. Back in
--- the deadband the old limits hold at once. No watts are above the available power, on the low side as anywhere; on the high side none are above the held power, and a frequency that rises further never raises them: neither in the sample's place, nor from
--- one sample to the next, all else alike and where the recovery count does not rise.
+-- Frequency droop, for the network owners: `Droops` in claims/specs/Droop.antt, of the reports of histories too.
+--   - In service above 60036 mHz a board is in an event on side 1, below 59964 on side 2, the step of its return
+--     included. In the deadband between, and when tripped, there is none.
+--   - Throughout an event the held power is the watts of the last report before it.
+--   - Where power is given in an event, the watts are the least of what volt-watt curve, nameplate, recovery and
+--     available power leave, and of the held power less or plus ten thirds of the distance. The last is off by less
+--     than one and not below 0. Operator's limit and share do not bind.
+--   - Back in the deadband the old limits hold at once.
+--   - No watts are above the available power, on the low side as anywhere. On the high side none are above the held
+--     power.
+--   - On the high side a frequency that rises further never raises the watts: neither in the sample's place, nor from
+--     one sample to the next, all else alike and where the recovery count does not rise.
 abbrev pub OurDroop : Type 0
 OurDroop = (st : Settings) → settingsAccepted st ≡ true → Droops ourEquipment st (historyReport ourEquipment st)
 
--- How soon two ramp counts come apart, the longest ramp being 60000 steps: claims/specs/RampPairs.antt. Under every accepted sheet, for every two lists of step calls, refused ones included, whose images, each saved
--- into a buffer that 9 lets pass, differ, and in no byte outside the ramp count's four: some common run of at most five accepted samples ends in reports that differ, as the accepted samples alone give them.
+-- How soon two ramp counts come apart, the longest ramp being 60000 steps: claims/specs/RampPairs.antt. Take any
+-- accepted sheet and two lists of step calls, refused ones included, whose images differ, each saved into a buffer
+-- that 9 lets pass, and in no byte outside the ramp count's four. Then some common run of at most five accepted
+-- samples ends in reports that differ, as the accepted samples alone give them.
 abbrev pub OurRampsTold : Type 0
 OurRampsTold = RampsTold ourEquipment ours 5
 
--- And fewer do not always do: there are an accepted sheet and two such lists of which no common run of four accepted samples or fewer, whatever they hold, ends in reports that differ.
+-- And fewer do not always do. There are an accepted sheet and two such lists of which no common run of four accepted
+-- samples or fewer, whatever they hold, ends in reports that differ.
 abbrev pub OurRampsUntold : Type 0
 OurRampsUntold = RampsUntold ourEquipment ours 4
 
 -- ---- images carried over
 
--- Images of the old firmware, from before the recovery count and frequency droop, which have 45 bytes, carried forward to this one, and images of this one carried back: carryover/specs/Carries.antt, of
--- our two operations. Each is refused by the number of its first cause, 10, 11, 9 in this order, and leaves the target then; the bytes behind the image stay
--- (`CarryRefusedRightly`). Each number once more by what it is given for (`CarryNumbered`). An image carried there and back, or back and there where that is allowed, is what it
--- was, and back is allowed exactly where the last four bytes are 40, 0, 0, 0 (`RoundTrips`). A record's old image becomes the image of that record with a recovery count of 40, no side
--- and no held power; its image can be carried back exactly where it has these itself, and becomes its old image (`CarriesRecords`).
+-- Images of the old firmware, from before the recovery count and frequency droop, have 45 bytes. They are carried
+-- forward to this one, and images of this one back: carryover/specs/Carries.antt, of our two operations.
+--   - Each is refused by the number of its first cause, 10, 11, 9 in this order, and leaves the target then. The
+--     bytes behind the image stay (`CarryRefusedRightly`). Each number is said once more by what it is given for
+--     (`CarryNumbered`).
+--   - An image carried there and back, or back and there where that is allowed, is what it was. Back is allowed
+--     exactly where the last four bytes are 40, 0, 0, 0 (`RoundTrips`).
+--   - A record's old image becomes the image of that record with a recovery count of 40, no side and no held power.
+--     Its image can be carried back exactly where it has these itself, and becomes its old image (`CarriesRecords`).
 pub record OurCarryOver : Type 0 where
   pub refuses : CarryRefusedRightly ourForward ourBack
   pub numbered : CarryNumbered ourForward ourBack
   pub round-trips : RoundTrips ourForward ourBack
   pub records : CarriesRecords ourForward ourBack
 
--- So there is no choice in it: whatever refuses so, and carries the images of records so, gives for any lent bytes the number and the target that ours gives.
+-- So there is no choice in it. Whatever refuses so, and carries the images of records so, gives for any lent bytes
+-- the number and the target that ours gives.
 abbrev pub OneCarryOver : Type 0
 OneCarryOver =
     (forward back : CarryOperation) → CarryRefusedRightly forward back → CarriesRecords forward back
     → (source target : List ℕ) → AllBytes source
     → (forward source target ≡ ourForward source target) × (back source target ≡ ourBack source target)
 
--- For an owner who goes back: `CarriesHistoriesBack`. After any list of calls under an accepted sheet, refused ones included, the record's image can be carried back
--- exactly where the last report shows a recovery count of 40, no side and no held power, and so wherever it says `tripped`.
+-- For an owner who goes back: `CarriesHistoriesBack`. After any list of calls under an accepted sheet, refused ones
+-- included, the record's image can be carried back exactly where the last report shows a recovery count of 40, no
+-- side and no held power; and so wherever it says `tripped`.
 abbrev pub OurWayBack : Type 0
 OurWayBack = (st : Settings) → settingsAccepted st ≡ true → CarriesHistoriesBack ourBack ours st
 
@@ -356,11 +403,18 @@ OurWayBack = (st : Settings) → settingsAccepted st ≡ true → CarriesHistori
 abbrev pub ourExplaining : Explaining
 ourExplaining = explainedBy ourEquipment
 
--- Beside each report stand the rule that held its status and the rule that held its watts: explain/specs/Explains.antt. Under every accepted sheet, for every list of step calls, refused ones
--- included, from a fresh board: an accepted sample is answered with the report and the two rules that the accepted samples alone give, by definitions in which no record occurs; a refused call has
--- none; and the fresh board's report comes with them too (`ShowsRules`). Record, report and refusal are those of the step that does not ask, on any record (`LeavesReports`), and so demands 2 and 3 hold.
--- When a rule is named, as a table in spec 13.11 has it: `NamesStatusRule` for the status, `NamesWattsRule` for the watts, both of histories, in the words of demand 2 and of what reports show; and on
--- any lent record, by its status and by the report alone, `NamesOnRecords`. The numbers of a rule tell it (`NumbersTell`).
+-- Beside each report stand the rule that held its status and the rule that held its watts:
+-- explain/specs/Explains.antt. Under every accepted sheet, for every list of step calls, refused ones included, from
+-- a fresh board:
+--   - An accepted sample is answered with the report and the two rules that the accepted samples alone give, by
+--     definitions in which no record occurs. A refused call has none. The fresh board's report comes with them too
+--     (`ShowsRules`).
+--   - Record, report and refusal are those of the step that does not ask, on any record (`LeavesReports`). So demands
+--     2 and 3 hold.
+--   - Each rule is named exactly where the table of spec 13.11 says: `NamesStatusRule` for the status and
+--     `NamesWattsRule` for the watts, of histories; `NamesOnRecords` on any lent record, by its status and by the
+--     report alone.
+--   - The numbers of a rule tell it (`NumbersTell`).
 pub record OurRules : Type 0 where
   pub shows : (st : Settings) → settingsAccepted st ≡ true → ShowsRules ourEquipment ourExplaining st
   pub reports : LeavesReports ourEquipment ourExplaining
@@ -415,31 +469,34 @@ AnyRules =
 abbrev pub OurEquipmentSound : Type 0
 OurEquipmentSound = Sound ourEquipment
 
--- Equipments with the same voltages for the codes up to 4095 and the same regions step alike: `Alike` in claims/specs/Alike.antt. So what a
--- step does depends on a lent sensing table by its 4,096 voltages alone.
+-- Equipments with the same voltages for the codes up to 4095 and the same regions step alike: `Alike` in
+-- claims/specs/Alike.antt. So what a step does depends on a lent sensing table by its 4,096 voltages alone.
 abbrev pub AlikeEquipmentStepsAlike : Type 0
 AlikeEquipmentStepsAlike = (e f : Equipment) → Alike e f → (b : Board) (st : Settings) (x : Slice) → stepOf e b st x ≡ stepOf f b st x
 
 -- ---- the exported functions and the replay, in the words of their contracts
 
--- Demand 1 of what is called from C and Rust: `ExportedRefuse` in saltdelta/specs/Refuses.antt. The number that `saltdelta_step`, `saltdelta_step_explained`,
--- `saltdelta_read_sheet`, `saltdelta_save`, `saltdelta_carry_forward`, `saltdelta_carry_back` and `saltdelta_replay` answer is that of the first cause in the order of spec 11.2, 0 where
--- there is none; record, report, settings, buffer and target that are lent to a refused call stay as they were; and what reading a sheet hands back is a part of the
--- caller's own bytes.
+-- Demand 1 of what is called from C and Rust: `ExportedRefuse` in saltdelta/specs/Refuses.antt. It speaks of
+-- `saltdelta_step`, `saltdelta_step_explained`, `saltdelta_read_sheet`, `saltdelta_save`, `saltdelta_carry_forward`,
+-- `saltdelta_carry_back` and `saltdelta_replay`. Each answers the number of the first cause in the order of spec
+-- 11.2, 0 where there is none. Record, report, settings, buffer and target that are lent to a refused call stay as
+-- they were. What reading a sheet hands back is a part of the caller's own bytes.
 abbrev pub ExportedRefusals : Type 0
 ExportedRefusals = ExportedRefuse
 
--- Demands 2 and 3 of them, whatever stands in the lent report: `exportedBoard` in saltdelta/specs/Exported.antt is the program that
--- begins with `saltdelta_fresh`, and whose step is the number, the record and the report of `saltdelta_step`.
+-- Demands 2 and 3 of them, whatever stands in the lent report. `exportedBoard` in saltdelta/specs/Exported.antt is
+-- the program that begins with `saltdelta_fresh`, and whose step is the number, the record and the report of
+-- `saltdelta_step`.
 abbrev pub ExportedDemands : Type 0
 ExportedDemands = (before : Report) → Demand2 ourEquipment (exportedBoard before) × Demand3 ourEquipment (exportedBoard before)
 
--- And how soon two ramp counts in the images of that program come apart: within five samples, and not always within four, by the reports that the accepted samples give, which demand 2 ties to those of the calls.
+-- And how soon two ramp counts in the images of that program come apart: within five samples, and not always within
+-- four. The reports are those that the accepted samples give, which demand 2 ties to those of the calls.
 abbrev pub ExportedRamps : Type 0
 ExportedRamps = (before : Report) → RampsTold ourEquipment (exportedBoard before) 5 × RampsUntold ourEquipment (exportedBoard before) 4
 
--- Demands 2 and 3 under the settings which `saltdelta_read_sheet` has stored, where it answered 0, whatever stood in the lent settings: they are accepted, as a replay
--- asks too, and the demands hold under them.
+-- Demands 2 and 3 under the settings which `saltdelta_read_sheet` has stored, where it answered 0, whatever stood in
+-- the lent settings. They are accepted, as a replay asks too, and the demands hold under them.
 abbrev pub ExportedUnderTexts : Type 0
 ExportedUnderTexts =
     (old : Settings) (before : Report) (s : List ℕ) → sheetAnswer s .number ≡ 0
@@ -447,16 +504,21 @@ ExportedUnderTexts =
     × TripAndReturn ourEquipment (exportedBoard before) (settingsAfter old s)
     × TwoHistoriesBy savedInto (historyReport ourEquipment) (exportedBoard before) (settingsAfter old s)
 
--- The rules as a host gets them, in numbers: `ExplainsInNumbers` in saltdelta/specs/Explained.antt. `saltdelta_fresh_explained` gives those of no sample, and `saltdelta_step_explained`, on the record that calls of it or
--- of `saltdelta_step` have left, and whatever stands in the lent struct, those of the accepted samples.
+-- The rules as a host gets them, in numbers: `ExplainsInNumbers` in saltdelta/specs/Explained.antt.
+-- `saltdelta_fresh_explained` gives those of no sample. `saltdelta_step_explained` gives those of the accepted
+-- samples, on the record that calls of it or of `saltdelta_step` have left, and whatever stands in the lent struct.
 abbrev pub ExportedRules : Type 0
 ExportedRules = (st : Settings) → settingsAccepted st ≡ true → ExplainsInNumbers st
 
--- A replay, `replay::replay`: `ReplaysRightly` in replay/specs/Demanded.antt. Recorded numbers are stepped seven by seven on a fresh record. A
--- replay is refused by 2 or 3 of the settings, then by 9, and only then, and leaves the buffer. Otherwise its report is the one that the
--- accepted samples alone give, and it says how many they are; with one accepted sample more a recording of whole samples that ends in service
--- ends tripped exactly when demand 2 says so, and one that ends tripped in service exactly when it says so, in the continuous operation region; and
--- two recordings under one sheet leave equal images exactly when no common run of up to 100,000 accepted samples tells them apart.
+-- A replay, `replay::replay`: `ReplaysRightly` in replay/specs/Demanded.antt. Recorded numbers are stepped seven by
+-- seven on a fresh record.
+--   - A replay is refused by 2 or 3 of the settings, then by 9, and only then, and leaves the buffer.
+--   - Otherwise its report is the one that the accepted samples alone give, and it says how many they are.
+--   - With one accepted sample more, a recording of whole samples that ends in service ends tripped exactly when
+--     demand 2 says so. One that ends tripped ends in service exactly when it says so, in the continuous operation
+--     region.
+--   - Two recordings under one sheet leave equal images exactly when no common run of up to 100,000 accepted samples
+--     tells them apart.
 abbrev pub OurReplay : Type 0
 OurReplay = ReplaysRightly replayed replayedInto
 
@@ -468,8 +530,9 @@ ExportedReplay = (before : Report) → ReplaysRightly (exportedReplay before) re
 abbrev pub ReplayGroups : Type 0
 ReplayGroups = GroupsBySeven groups
 
--- The words of this page are the code's. `ContractsSay` in specs/Contracts.antt: the contracts of the public operations and of the exported
--- functions, as the checker reads them from the source, ask nothing of a caller and ensure these words, in every model of the logic.
+-- The words of this page are the code's: `ContractsSay` in specs/Contracts.antt. The contracts of the public
+-- operations and of the exported functions, as the checker reads them from the source, ask nothing of a caller and
+-- ensure these words, in every model of the logic.
 abbrev pub CodeContracts : Type 2
 CodeContracts =
     (M : Type 1) (𝓤 : URA M) (H : Heap 𝓤) (A : Atoms 𝓤) (mem : Memory → SProp 𝓤) (run : Routine → Fun 𝓤) → ContractsSay 𝓤 H A mem run

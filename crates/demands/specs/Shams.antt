@@ -1,5 +1,9 @@
--- Spec 13.6, 13.12: the sham boards that demand 2 must stop; sham images and reports that demand 3 must
--- stop; shams where the frequency is far outside; sham readings of sheets and of lines; sham answers to sample lines; and sham printings. Those that demand 1 must stop: ShamRefusals.antt.
+-- Shams of spec 13.6, 13.9 and 13.12, each with one fault that a statement of Caught.antt must stop:
+--   - boards, for demand 2; images and reports, for demand 3;
+--   - reports that restore power wrongly after a cessation;
+--   - reports and a board that do wrong where the frequency is far outside;
+--   - readings of sheets, of lines and of lent records; answers to sample lines; printings.
+-- ShamRefusals.antt has those for demand 1. Each other file beside this one has the shams of one claim.
 -- Assumes nothing.
 use mathlib.Core.Bool.{Bool, false, cond, not, _&&_}
 use mathlib.Core.List.{List, [], _∷_, _++_, map}
