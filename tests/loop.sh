@@ -1,5 +1,5 @@
 #!/usr/bin/env bash
-# What no contract can say of `board`'s loop (README.md, "What is only tested"): each call of C, and each step of the loop that leads to one, has one
+# What no contract can say of `board`'s loop (docs/PROOF.md, "What is only tested"): each call of C, and each step of the loop that leads to one, has one
 # place in the source, and nothing writes into the input buffer between a read and its answer but `to_front`, after it.
 set -u
 cd "$(dirname "$0")/.." || exit 2
