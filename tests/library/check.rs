@@ -11,6 +11,8 @@ mod comparison;
 mod droops;
 #[path = "../compare/edges.rs"]
 mod edges;
+#[allow(dead_code)]
+#[path = "../../include/saltdelta.rs"]
 mod library;
 mod logs;
 mod ramps;
