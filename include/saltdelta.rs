@@ -25,8 +25,8 @@
 //! stand in what you lend; there is an answer to each.
 //!
 //! A call that can be refused answers with a number, `read_sheet` and `replay` in a struct: `ACCEPTED`, or the first
-//! cause it found. A refused call writes nothing at all. Every byte that you lent stays as it was, padding included. Any
-//! other call writes every field of what it writes, and may change the padding.
+//! cause it found. A refused call writes nothing at all. Every byte that you lent stays as it was, padding included.
+//! Any other call writes every field of what it writes, and may change the padding.
 
 // ---- numbers that a call answers
 
