@@ -49,7 +49,7 @@ rt staticlib saltdelta > "$out/staticlib.log" 2>&1 ||
 rust comparison comparison/board.rs
 rust check-rust tests/library/check.rs -L target/staticlib
 rust step-rust examples/step.rs -L target/staticlib
-c check-c tests/library/check.c
+c check-c tests/library/*.c
 c carry examples/carry.c
 c why examples/why.c
 c step-c examples/step.c
