@@ -136,10 +136,13 @@ for said in examples/*.why; do
     expect $? "examples/why.c: other words than $said"
 done
 
-# the smallest programs, from C and from Rust
+# the smallest programs, from C and from Rust, on a good sheet and on a refused one
 for program in step-c step-rust; do
-    "$out/$program" > "$out/said" && cmp -s "$out/said" examples/step.said
+    "$out/$program" < examples/listing.in > "$out/said" && cmp -s "$out/said" examples/step.said
     expect $? "$program: another exit status than 0, or other words than examples/step.said"
+    said=$("$out/$program" < examples/refused-sheet-2.in)
+    [ "$?,$said" = "1,sheet line 4: refused 2" ]
+    expect $? "$program: a refused sheet: said '$said'"
 done
 
 # the constants of the header and of the Rust binding, as NAME NUMBER
