@@ -123,7 +123,7 @@ numbers() { sed -nE 's/^\| ([0-9]+) \|.*/\1/p'; }
 same "docs/OPERATING.md: its refusals are not those of spec 11.1" "$(sed -n '/^\*\*11\.1\*\*/,/^\*\*11\.2\*\*/p' docs/SPECIFICATION.md | numbers)" \
     "$(sed -n '/^## Refusals/,/^## In a live/p' docs/OPERATING.md | numbers)"
 same "docs/OPERATING.md: its sheet is not that of spec 3.3" "$(sed -n '/^\*\*3\.3\*\*/,/^\*\*3\.4\*\*/p' docs/SPECIFICATION.md | grep '^(')" \
-    "$(sed -nE 's/^\| `(\((trip|enter|var|watt) .*\))` \|.*/\1/p' docs/OPERATING.md)"
+    "$(sed -nE 's/^\| [0-9]+ \| `(\((trip|enter|var|watt) .*\))` \|.*/\1/p' docs/OPERATING.md)"
 
 # The reports of the storm are those that its output has, here at the sample that the guide names.
 while IFS='|' read -r _ sample _ report _; do
