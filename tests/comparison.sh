@@ -1,5 +1,5 @@
 #!/usr/bin/env bash
-# The comparison program's own tests, by the hands that wrote it: edge values, the example of spec 10.11, refusals.
+# The comparison program's own tests: edge values, the example of spec 10.11, refusals.
 set -u
 cd "$(dirname "$0")/.." || exit 2
 mkdir -p target/comparison

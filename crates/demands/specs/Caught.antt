@@ -41,9 +41,9 @@ use Rattle.demands.specs.ShamRules.{waitsAtTrip, lastLimit, bestRegion, 
 use Rattle.demands.specs.ShamRefusals.{refusesLastCode, storesReading, sampleFirst, writesWhatFits, linesFromZero, handsRest}
 use Rattle.demands.specs.Demands.{ours}
 
--- Seven sham boards do not meet demand 2 on the sheet of spec 10.11: some list of calls tells each of them from ours.
--- Five are those of spec 13.6. Two turn away good samples: one moves its record as if it had taken them, one leaves
--- it. That sheet is accepted, so that demand 2, which speaks of every accepted sheet, is false of each of them.
+-- Seven sham boards do not meet demand 2 on the sheet of spec 10.11. Five are those of spec 13.6. Two turn away good
+-- samples: one moves its record as if it had taken them, one leaves it. That sheet is accepted, so that demand 2,
+-- which speaks of every accepted sheet, is false of each of them.
 pub record ShamsCaught : Type 0 where
   pub accepted : settingsAccepted (exampleSheet 0) ≡ true
   pub early : ¬ TripAndReturn ourEquipment tripsEarly (exampleSheet 0)
@@ -71,9 +71,9 @@ pub record ShamReportsCaught : Type 0 where
       × Trips ourEquipment saysTripped (exampleSheet 0) × ReturnsContinuous ourEquipment saysTripped (exampleSheet 0)
 
 -- Demand 3 is false of five sham images: 0 in place of the ramp count, of the ninth counter, of the side or of the
--- held power, and 40 in place of the recovery count. They are equal where the reports differ, now or later. It is
--- false too of a report whose bits are always 0: equal reports, different images. Each on an example sheet, which is
--- accepted.
+-- held power, and 40 in place of the recovery count. (The proofs take histories whose sham images are equal and whose
+-- reports differ, now or later.) It is false too of a report whose bits are always 0. Each on an example sheet, which
+-- is accepted.
 pub record ShamImagesCaught : Type 0 where
   pub accepted : (settingsAccepted (exampleSheet 0) ≡ true) × (settingsAccepted (exampleSheet 2) ≡ true)
   pub ramp : ¬ TwoHistoriesBy savedWithoutRamp (historyReport ourEquipment) ours (exampleSheet 0)
@@ -85,8 +85,8 @@ pub record ShamImagesCaught : Type 0 where
 
 -- Five samples are enough for two ramp counts, and four are not. That some pair needs six is refuted by
 -- `OurRampsTold`, and that four are always enough by `OurRampsUntold`. A board whose ramps are a step longer than its
--- sheet's, and whose reports are those of such ramps, has a pair that five samples do not tell. Reports that show the
--- ramp count in the share's place tell every pair at once.
+-- sheet's, and whose reports are those of such ramps, does not meet the first. Reports that show the ramp count in
+-- the share's place do not meet the second.
 pub record ShamRampsCaught : Type 0 where
   pub six : ¬ RampsUntold ourEquipment ours 5
   pub four : ¬ RampsTold ourEquipment ours 4
@@ -95,16 +95,17 @@ pub record ShamRampsCaught : Type 0 where
       → runOf sixSamples cs .report ≡ reportOf (reportLonger st (acceptedSamples cs))
   pub counted : ¬ RampsUntoldBy savedInto reportCounted ours 0
 
--- Three shams do not restore power as they should. One shows a full recovery count at once. One counts as it should
--- and gives all at once. One counts as it should and gives nothing until the count is full.
+-- Three shams do not restore power as they should, on the sheet of spec 10.11. One shows a full recovery count at
+-- once. One counts as it should and gives all at once. One counts as it should and gives nothing until the count is
+-- full.
 pub record ShamRecoveryCaught : Type 0 where
   pub shown : ¬ RestoresPower ourEquipment (exampleSheet 0) (reportFullAtOnce (exampleSheet 0))
   pub unheld : ¬ RestoresPower ourEquipment (exampleSheet 0) (reportUnheld (exampleSheet 0))
   pub withheld : ¬ RestoresPower ourEquipment (exampleSheet 0) (reportWithheld (exampleSheet 0))
 
--- Five shams do wrong where the frequency is far outside. One goes on giving power there. Two cease at an end that
--- still belongs to ride-through, 57000 and 62000. One shows momentary cessation. The limits' counters of the fifth
--- stop there, which is demand 2's to find.
+-- Five shams do wrong where the frequency is far outside, on that sheet. One goes on giving power there. Two cease at
+-- an end that still belongs to ride-through, 57000 and 62000. One shows momentary cessation. The limits' counters of
+-- the fifth stop there, which is demand 2's to find.
 pub record ShamRideThroughEndsCaught : Type 0 where
   pub riding-on : ¬ CeasesBeyondRideThrough ourEquipment (reportRidingOn (exampleSheet 0))
   pub low-end : ¬ CeasesBeyondRideThrough ourEquipment (reportCeasingAt 57000 (exampleSheet 0))
@@ -112,7 +113,7 @@ pub record ShamRideThroughEndsCaught : Type 0 where
   pub momentary : ¬ CeasesBeyondRideThrough ourEquipment (reportMomentary (exampleSheet 0))
   pub stopped : ¬ TripAndReturn ourEquipment stopsCounting (exampleSheet 0)
 
--- Seven shams do not droop as they should.
+-- Seven shams do not droop as they should, on that sheet.
 --   - By what they hold: the watts before each step of an event; those of its first step; what was held on the other
 --     side.
 --   - By their watts: the operator's limit still binds; the quotient is rounded up.
@@ -173,9 +174,9 @@ pub record ShamCarryOversCaught : Type 0 where
   pub dropped : ¬ RoundTrips ourForward dropsAny
   pub swaps : CarryRefusedRightly swapsForward swapsBack × RoundTrips swapsForward swapsBack × (¬ CarriesRecords swapsForward swapsBack)
 
--- Six shams do not name the rules as they should: the wait named at the step of a trip; the last limit in place of
--- the first where two have run out; the cause of the best region; the last limit of the watts in place of the first
--- among equals; droop listed last in an event; and the status named in mandatory operation.
+-- Six shams do not name the rules as they should, on that sheet: the wait named at the step of a trip; the last limit
+-- in place of the first where two have run out; the cause of the best region; the last limit of the watts in place of
+-- the first among equals; droop listed last in an event; and the status named in mandatory operation.
 pub record ShamRulesCaught : Type 0 where
   pub waits : ¬ NamesStatusRule ourEquipment (exampleSheet 0) (waitsAtTrip (exampleSheet 0))
   pub turned : ¬ NamesStatusRule ourEquipment (exampleSheet 0) (lastLimit (exampleSheet 0))

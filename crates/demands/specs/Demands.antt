@@ -14,7 +14,7 @@
 --   - `freshAnswer` and `explainedStep ourEquipment` are what `explain::fresh_answer` and `explain::step::step` give.
 --   - `respondOf ourEquipment` is what `respond::respond` makes of a block.
 -- The exported functions, for C and Rust, promise the same words (saltdelta/specs/Answers.antt, Explained.antt). A
--- refused one leaves all that was lent as it was: `ExportedRefusals`.
+-- refused one leaves the fields and bytes that were lent as they were: `ExportedRefusals`.
 --
 -- `ourEquipment` is the sensing rule of spec 2.2 with the voltage regions of spec 6.7. docs/PROOF.md lists the files
 -- that define the words of this page.
@@ -101,24 +101,27 @@ ourOperations = operationsBy ourEquipment
 
 -- Demand 1, the library: `RefusesRightly` in claims/specs/FirstCause.antt, of our operations. Checking settings,
 -- sensing, the step and the saving refuse with n exactly when n is the first cause in the order of spec 11.2. Input
--- with no cause is accepted. A refusal leaves the record's fields and every byte of a lent slice or buffer as they
--- were. (That the operations stay inside their buffers and their arithmetic, and end, is part of each function's own
--- proof.)
+-- with no cause is accepted, and a refusal of settings has the line of its cause. A refusal leaves the record's
+-- fields and every byte of a lent buffer as they were, and a saving leaves the bytes behind the image. (That the
+-- operations stay inside their buffers and their arithmetic, and end, is part of each function's own proof.)
 abbrev pub OurRefusals : Type 0
 OurRefusals = RefusesRightly ourOperations
 
 -- Demand 1, reading a sheet: `SheetsRefusedRightly` in claims/specs/SheetCauses.antt, of our reading and of what it
 -- hands back. A text is refused with n at a line exactly when that is the first line with a cause, and n the first of
--- its causes 1, 2, 3. It is accepted exactly when none of the thirteen lines has a cause. What is handed back is the
--- refused line at its place in the text, a missing one at the end, or what follows an accepted sheet.
+-- its causes 1, 2, 3. It is accepted exactly when none of the thirteen lines has a cause. The settings of an accepted
+-- sheet are its lines' numbers, those of a refused one all 0. What is handed back is the refused line at its place in
+-- the text, a missing one at the end, or what follows an accepted sheet.
 abbrev pub OurSheetRefusals : Type 0
 OurSheetRefusals = SheetsRefusedRightly readSheet handedBack
 
 -- Demand 1, the program: `TranscriptLaw` in program/specs/Sessions.antt. However an input is cut into blocks, and
--- whatever buffers are lent, what `respond` writes, put together, is the transcript of the input's first 10^12 bytes
--- (rules/specs/Transcripts.antt). The transcript is a sheet's first refusal with its line, which ends all; or an
--- answer for each line after the sheet, an unended last line and lines of any length among them. And further:
---   - A call handles as many lines as are there and fit, and leaves no more than 128 bytes of a begun line.
+-- whatever buffers are lent: once all is done, what `respond` has written, put together, is the transcript of the
+-- input's first 10^12 bytes (rules/specs/Transcripts.antt). Before that it is a beginning of it. The transcript is a
+-- sheet's first refusal with its line, which ends all; or an answer for each line after the sheet, an unended last
+-- line and lines of any length among them. And further:
+--   - A call handles as many lines as are there and fit. Where all is not done and there is room for a line more, it
+--     leaves no whole line, and no more than 128 bytes of a begun one.
 --   - Among the samples it writes the answers to the lines that it takes, then and there. So does the call that takes
 --     the sheet's last line.
 --   - A refused sheet ends all as soon as its line has its line feed and no whole line is left.
@@ -139,7 +142,7 @@ OurSessions = StandingLaw ourEquipment
 -- Demand 2: `TripAndReturn` in claims/specs/TripAndReturn.antt. Under every accepted sheet, for every list of step
 -- calls, refused ones included, on one record from a fresh board:
 --   - The last report is the one that the accepted samples alone give, in their order; so is the answer to every
---     accepted call; and so is the record.
+--     accepted call; and so is the record. Any other call is refused by the number of its first cause.
 --   - In service, the board trips at a step exactly when permission is off there, or when one of the eight limits was
 --     broken at each of the last samples of its whole clearing time, the step's own included.
 --   - Tripped, it returns exactly when each of the last samples of its full wait was in range with permission on. A
@@ -158,15 +161,15 @@ OurTwoHistories = Demand3 ourEquipment ours
 
 -- ---- what is accepted, without a parser
 
--- Good sheets are read: `ReadsSheetsBack` in formats/specs/Sheets.antt. Take settings that 2 and 3 pass, written out
--- as the thirteen lines of spec 3.2, each ended by a line feed (`writtenSheet`). They are accepted whatever bytes
--- follow (spec 3.8), with those settings, and the reading ends where the sheet does. A reading that turns away a good
--- sheet does not meet this.
+-- Good sheets are read: `ReadsSheetsBack` in formats/specs/Sheets.antt. Take settings that 2 and 3 pass, with as many
+-- limits and points as a sheet has, written out as the thirteen lines of spec 3.2, each ended by a line feed
+-- (`writtenSheet`). They are accepted whatever bytes follow (spec 3.8), with those settings, and the reading ends
+-- where the sheet does. A reading that turns away a good sheet does not meet this.
 abbrev pub SheetsReadBack : Type 0
 SheetsReadBack = ReadsSheetsBack readSheet
 
--- Nothing else is: `AcceptsSheetsOnly`. Every accepted text begins with its settings written out, and 2 and 3 pass
--- them.
+-- Nothing else is accepted: `AcceptsSheetsOnly`. Every accepted text begins with its settings written out, and 2 and
+-- 3 pass them.
 abbrev pub SheetsWrittenOut : Type 0
 SheetsWrittenOut = AcceptsSheetsOnly readSheet
 
@@ -200,7 +203,7 @@ LinesOfForms = ReadsForms numbersOf
 abbrev pub SampleLinesAnswered : Type 0
 SampleLinesAnswered = AnswersSamples lineStep
 
--- So there is no choice in the answers either.
+-- So there is no choice in the answers either: any answering with this property is ours.
 abbrev pub OneSampleAnswer : Type 0
 OneSampleAnswer =
     (answer : Answering) → AnswersSamples answer → (e : Equipment) (st : Settings) (b : Board) (l : Line) → answer e st b l ≡ lineStep e st b l
@@ -215,6 +218,7 @@ AcceptedSamplesWritable = (x : Slice) → sampleAccepted x ≡ true → writable
 abbrev pub SampleLinesReadBack : Type 0
 SampleLinesReadBack = (x : Slice) (after : List ℕ) → writable x ≡ true → ReadsBack x after
 
+-- `BeginsWithSample`: the other way round.
 abbrev pub SampleLinesWrittenOut : Type 0
 SampleLinesWrittenOut =
     (s : List ℕ) (x : Slice) (lines : List Line) → linesIn s ≡ ended (writtenSample x) ∷ lines → BeginsWithSample s x lines
@@ -254,7 +258,8 @@ SessionsPrinted =
 abbrev pub SamplesOnLines : Type 0
 SamplesOnLines = (l : Line) (x : Slice) → (sampleOn l ≡ some x) ↔ ((writable x ≡ true) × (l ≡ ended (writtenSample x)))
 
--- Each status has a word of its own: two report lines have the same word exactly when their statuses are the same.
+-- Each of the statuses 0 to 5 has a word of its own: two report lines have the same word exactly when their statuses
+-- are the same.
 abbrev pub StatusWordsTell : Type 0
 StatusWordsTell =
     (r q : Report) → r .status ≤ 5 → q .status ≤ 5 → (printedStatus (reportLine r) ≡ printedStatus (reportLine q)) ↔ (r .status ≡ q .status)
@@ -281,11 +286,12 @@ OurTwoHistoriesReported = Demand3By savedInto (λ st h. reportOf (historyReport 
 
 -- `ReadsRecords` in claims/specs/LentRecords.antt. An accepted call on a lent record answers and leaves what it does
 -- on the record as that is read (`readAs` in rules/specs/Records.antt). A refused one leaves it as it was lent.
--- Reading twice is reading once, and a record that calls have left, from a fresh board on, is read as it is.
+-- Reading twice is reading once, and a record that calls have left, from a fresh board on and under an accepted
+-- sheet, is read as it is.
 abbrev pub OurLentRecords : Type 0
 OurLentRecords = ReadsRecords ourEquipment ours
 
--- The rows of spec 5.4 as values, one table, under sheets with different numbers: specs/Lent.antt.
+-- The rows of spec 5.4 as values, under sheets with different numbers: specs/Lent.antt.
 abbrev pub LentValues : Type 0
 LentValues = LentRead
 
@@ -322,10 +328,11 @@ pub record PowerLaws : Type 0 where
   pub beside-vars : (st : Settings) → settingsAccepted st ≡ true → (v : ℕ) → LargestBeside (curve (st .var) v) (nameplate (curve (st .var) v))
 
 -- Power back after a cessation, as the standard asks within 0.4 s: `RestoresPower` in claims/specs/Recovery.antt, of
--- the reports of histories, which demand 2 ties to the board's. After k samples in a row that give power, k up to 40,
--- behind a cessation, the recovery count is k and lets exactly 250 × k through. After forty in a row it is 40,
--- whatever was before them. Where power is given, the watts are what the other limits leave, or what the count lets
--- through where that is less; at 40 they are what the others leave.
+-- the reports of histories, which demand 2 ties to the board's. The recovery count is 0 in a cessation, and 40 when
+-- tripped and at a return. After k samples in a row that give power, k up to 40, behind a cessation, it is k and lets
+-- exactly 250 × k through. After forty in a row it is 40, whatever was before them. Where power is given, the watts
+-- are what the other limits leave, or what the count lets through where that is less; at 40 they are what the others
+-- leave. No watts are above what the count lets through.
 abbrev pub OurRecovery : Type 0
 OurRecovery = (st : Settings) → settingsAccepted st ≡ true → RestoresPower ourEquipment st (historyReport ourEquipment st)
 
@@ -334,8 +341,8 @@ OurRecovery = (st : Settings) → settingsAccepted st ≡ true → RestoresPower
 -- There are no watts and no vars there, whatever the voltages and whatever came before. A board that is in service
 -- after the sample ceases to energize, with a recovery count of 0; a tripped one does not return. From 57000 to
 -- 62000, both included, the frequency is no reason to stop: in service the status is one that gives power exactly
--- where neither voltage's region is a cessation. (Counters run there as anywhere: what `keeps` and `trips` of demand
--- 2 count asks after no region.)
+-- where neither voltage's region is a cessation. (Counters run there as anywhere: what demand 2's `keeps` and `trips`
+-- count does not depend on the region.)
 abbrev pub OurRideThroughEnds : Type 0
 OurRideThroughEnds = (st : Settings) → settingsAccepted st ≡ true → CeasesBeyondRideThrough ourEquipment (historyReport ourEquipment st)
 
@@ -435,21 +442,27 @@ EdgeValues = EdgesHold
 
 -- ---- wider than asked: any sensing table and any voltage regions with the facts of `Sound`, which ours have
 
+-- demand 2
 abbrev pub AnyTripAndReturn : Type 0
 AnyTripAndReturn = (e : Equipment) → Sound e → Demand2 e (ruledBy e)
 
+-- demand 3
 abbrev pub AnyTwoHistories : Type 0
 AnyTwoHistories = (e : Equipment) → Sound e → Demand3 e (ruledBy e)
 
+-- two ramp counts come apart within five samples
 abbrev pub AnyRampsTold : Type 0
 AnyRampsTold = (e : Equipment) → Sound e → RampsTold e (ruledBy e) 5
 
+-- and not always within four
 abbrev pub AnyRampsUntold : Type 0
 AnyRampsUntold = (e : Equipment) → Sound e → RampsUntold e (ruledBy e) 4
 
+-- power back after a cessation
 abbrev pub AnyRecovery : Type 0
 AnyRecovery = (e : Equipment) → Sound e → (st : Settings) → settingsAccepted st ≡ true → RestoresPower e st (historyReport e st)
 
+-- no power far outside
 abbrev pub AnyRideThroughEnds : Type 0
 AnyRideThroughEnds = (e : Equipment) → Sound e → (st : Settings) → settingsAccepted st ≡ true → CeasesBeyondRideThrough e (historyReport e st)
 
@@ -457,6 +470,7 @@ AnyRideThroughEnds = (e : Equipment) → Sound e → (st : Settings) → setting
 abbrev pub AnyDroop : Type 0
 AnyDroop = (e : Equipment) (st : Settings) → settingsAccepted st ≡ true → Droops e st (historyReport e st)
 
+-- when an image can be carried back
 abbrev pub AnyWayBack : Type 0
 AnyWayBack = (e : Equipment) → Sound e → (st : Settings) → settingsAccepted st ≡ true → CarriesHistoriesBack ourBack (ruledBy e) st
 
@@ -466,6 +480,7 @@ AnyRules =
     (e : Equipment) (st : Settings) → settingsAccepted st ≡ true
     → ShowsRules e (explainedBy e) st × NamesStatusRule e st (historyStatusRule e st) × NamesWattsRule e st (historyWattsRule e st)
 
+-- ours has these facts
 abbrev pub OurEquipmentSound : Type 0
 OurEquipmentSound = Sound ourEquipment
 
@@ -496,7 +511,7 @@ abbrev pub ExportedRamps : Type 0
 ExportedRamps = (before : Report) → RampsTold ourEquipment (exportedBoard before) 5 × RampsUntold ourEquipment (exportedBoard before) 4
 
 -- Demands 2 and 3 under the settings which `saltdelta_read_sheet` has stored, where it answered 0, whatever stood in
--- the lent settings. They are accepted, as a replay asks too, and the demands hold under them.
+-- the lent settings. These settings are accepted, which a replay also requires, and the demands hold under them.
 abbrev pub ExportedUnderTexts : Type 0
 ExportedUnderTexts =
     (old : Settings) (before : Report) (s : List ℕ) → sheetAnswer s .number ≡ 0
@@ -518,7 +533,8 @@ ExportedRules = (st : Settings) → settingsAccepted st ≡ true → ExplainsInN
 --     demand 2 says so. One that ends tripped ends in service exactly when it says so, in the continuous operation
 --     region.
 --   - Two recordings under one sheet leave equal images exactly when no common run of up to 100,000 accepted samples
---     tells them apart.
+--     tells them apart; of whole samples this is said of the replay's own reports too. The bytes behind the image
+--     stay.
 abbrev pub OurReplay : Type 0
 OurReplay = ReplaysRightly replayed replayedInto
 
