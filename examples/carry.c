@@ -1,12 +1,13 @@
-/* Images carried over between the old firmware, from before the recovery count and the droop (45 bytes), and this one (49 bytes), as a filter:
+/* Carries images over between the old firmware, from before recovery count and droop (45 bytes), and this one (49
+ * bytes), as a filter:
  *
  *     rt staticlib saltdelta
  *     cc examples/carry.c -Iinclude target/staticlib/libsaltdelta.a -o carry
  *     ./carry forward < old.image > new.image
  *     ./carry back < new.image > old.image
  *
- * A refused image leaves the output empty; the number stands on standard error, and the exit status is 1. 2 is for a wrong command line, an image
- * that cannot be read, or output that cannot be written. */
+ * A refused image leaves the output empty, says its number on standard error, and ends with status 1. Status 2 is for a
+ * wrong command line, an image that cannot be read, or output that cannot be written. */
 #include <stdint.h>
 #include <stdio.h>
 #include <string.h>

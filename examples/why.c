@@ -1,6 +1,7 @@
-/* Why: reads what `board` reads, a sheet and then samples, and says for each line the status and the watts, and the rules that held them, or
- * the number by which it is refused; before the first line, those of the fresh board.
- * *     rt staticlib saltdelta
+/* Why: reads what `board` reads, a sheet and then samples. For each line it says status and watts, and the rules that
+ * held them, or the number by which the line is refused. Before the first line it says those of the fresh board.
+ *
+ *     rt staticlib saltdelta
  *     cc examples/why.c -Iinclude target/staticlib/libsaltdelta.a -o why
  *     ./why < examples/morning.in
  *

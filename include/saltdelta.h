@@ -160,7 +160,8 @@ typedef struct {
 } saltdelta_settings;
 
 /* The board record, which the caller keeps from step to step. Any numbers may stand in it; spec 5.4 says how they are
- * read. A number above its top is read as the top, a status without a name as tripped, a side without a name as none. * Of a tripped board, ramp count, recovery count, side and held power are not looked at; its watts are, where its
+ * read. A number above its top is read as the top, a status without a name as tripped, a side without a name as none.
+ * Of a tripped board, ramp count, recovery count, side and held power are not looked at; its watts are, where its
  * return begins an event. */
 typedef struct {
     uint8_t status;
