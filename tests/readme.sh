@@ -143,6 +143,11 @@ expect $? "README.md: fewer than six lines of output"
 [ "$(wc -l < README.md)" -le 120 ]
 expect $? "README.md: more than 120 lines"
 same "README.md: its program is not examples/step.c" "$(sed -n '/^#include/,$p' examples/step.c)" "$(sed -n '/^```c$/,/^```$/p' README.md | sed '1d;$d')"
+# Decisions are numbered in order, each with its question.
+numbered=$(sed -nE 's/^- \*\*(D[0-9]+\.[0-9]+) .*/\1/p' docs/DECISIONS.md)
+same "docs/DECISIONS.md: its entries are not numbered in order" "$(sort -V -u <<< "$numbered")" "$numbered"
+[ -z "$(tr '\n' ' ' < docs/DECISIONS.md | grep -oE -- '- \*\*D[0-9.]+ [^*]*[^?*]\*\*')" ]
+expect $? "docs/DECISIONS.md: an entry without its question"
 [ "$(wc -w < docs/DECISIONS.md)" -le 5000 ]
 expect $? "docs/DECISIONS.md: more than 5,000 words"
 
