@@ -125,6 +125,17 @@ same "docs/OPERATING.md: its refusals are not those of spec 11.1" "$(sed -n '/^\
 same "docs/OPERATING.md: its sheet is not that of spec 3.3" "$(sed -n '/^\*\*3\.3\*\*/,/^\*\*3\.4\*\*/p' docs/SPECIFICATION.md | grep '^(')" \
     "$(sed -nE 's/^\| [0-9]+ \| `(\((trip|enter|var|watt) .*\))` \|.*/\1/p' docs/OPERATING.md)"
 
+# The ranges beside it are those of spec 3.5, but for ov2's, which the guide has in words; the regions of a voltage those of spec 6.7.
+ranges() { grep -vE '12000 \| 16 \||these two numbers only' | sed -E 's/ \([^)]*\)//g; s/^\|.*\| ([-0-9]+ to [-0-9]+)(;| \|) ([-0-9]+ to [-0-9]+) \|$/\1; \3/' | grep -E '^[-0-9]+ to [-0-9]+; [-0-9]+ to [-0-9]+$'; }
+same "docs/OPERATING.md: its ranges are not those of spec 3.5" "$(sed -n '/^\*\*3\.5\*\*/,/^\*\*3\.6\*\*/p' docs/SPECIFICATION.md | ranges)" \
+    "$(sed -n '/^## What goes in/,/^## What comes out/p' docs/OPERATING.md | ranges)"
+same "docs/OPERATING.md: its regions of a voltage are not those of spec 6.7" \
+    "$(sed -n '/^\*\*6\.7\*\*/,/^\*\*6\.8\*\*/p' docs/SPECIFICATION.md | sed -nE 's/^\| ([a-z0-9 ]*[0-9]) \| ([a-z]+) \|$/\1: \2/p')" \
+    "$(sed -nE 's/^\| voltage ([a-z0-9 ]+) \| (`entering` or )?`([a-z]+)` \|.*/\1: \3/p' docs/OPERATING.md)"
+# The bytes of an image in docs/LIBRARY.md are those of spec 9.1.
+bytes() { sed -n '/^| bytes | hold |/,/^$/p' "$1"; }
+same "docs/LIBRARY.md: its image is not that of spec 9.1" "$(bytes docs/SPECIFICATION.md)" "$(bytes docs/LIBRARY.md)"
+
 # The reports of the storm are those that its output has, here at the sample that the guide names.
 while IFS='|' read -r _ sample _ report _; do
     line=$(sed -n "${sample// /}p" examples/storm.out)
