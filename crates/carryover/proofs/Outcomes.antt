@@ -12,7 +12,7 @@ use borrow.Author.Tests.{eqb-true, leb-true}
 use denote.Enum.Declared.{tagOf}
 use types.Run.{OneOf, miss}
 use Rattle.rules.specs.Images.{imageLength}
-use Rattle.claims.specs.FirstCause.{cause, first}
+use Rattle.causes.specs.FirstCause.{cause, first}
 use Rattle.buffers.specs.Written.{written}
 use Rattle.carryover.specs.CarryOver.{oldLength, hasAdded, carryNumber, carryAnswer, forwardAnswer, backAnswer, carriedInto, forwardCauses, backCauses}
 use Rattle.carryover.specs.declared.CarryAnswer.{CarryAnswer}

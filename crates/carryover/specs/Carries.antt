@@ -10,8 +10,8 @@ use Rattle.rules.specs.Service.{recoveryTop}
 use Rattle.rules.specs.Images.{Field, field, fieldBytes, twosComplement, image, imageLength}
 use Rattle.rules.specs.declared.Settings.{Settings}
 use Rattle.rules.specs.declared.Board.{Board}
-use Rattle.claims.specs.Calls.{Call, Program, runOf, Under}
-use Rattle.claims.specs.FirstCause.{first}
+use Rattle.causes.specs.Calls.{Call, Program, runOf, Under}
+use Rattle.causes.specs.FirstCause.{first}
 use Rattle.carryover.specs.CarryOver.{oldLength, addedBytes, carryNumber, forwardAnswer, backAnswer, forwardInto, backInto, forwardCauses, backCauses}
 
 -- what comes of a call: the number that it answers, and the target as it leaves it

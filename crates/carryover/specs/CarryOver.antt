@@ -8,7 +8,7 @@ use lib.ListN.{length, take, drop}
 use Rattle.rules.specs.Droop.{noSide}
 use Rattle.rules.specs.Service.{recoveryTop}
 use Rattle.rules.specs.Images.{imageLength}
-use Rattle.claims.specs.FirstCause.{Cause, cause}
+use Rattle.causes.specs.FirstCause.{Cause, cause}
 use Rattle.carryover.specs.declared.CarryAnswer.{CarryAnswer}
 
 -- ---- the two images

@@ -3,7 +3,7 @@ ghost use mathlib.Core.Path.{_≡_};
 ghost use Prim.Native.Nat.{_≤_};
 ghost use lib.ListN.{length, take};
 ghost use Rattle.buffers.specs.Written.{written};
-ghost use Rattle.claims.specs.FirstCause.{first};
+ghost use Rattle.causes.specs.FirstCause.{first};
 ghost use Rattle.carryover.specs.CarryOver.{oldLength, hasAdded, carryNumber, carryAnswer, forwardAnswer, backAnswer, forwardInto, backInto, forwardCauses, backCauses};
 use rules::IMAGE_LENGTH;
 use rules::RECOVERY_TOP;

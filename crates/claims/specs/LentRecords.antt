@@ -8,7 +8,7 @@ use Rattle.rules.specs.Samples.{Equipment}
 use Rattle.rules.specs.Records.{readAs}
 use Rattle.rules.specs.declared.Settings.{Settings}
 use Rattle.rules.specs.declared.Board.{Board}
-use Rattle.claims.specs.Calls.{Call, Program, runOf, callAccepted, Under}
+use Rattle.causes.specs.Calls.{Call, Program, runOf, callAccepted, Under}
 
 pub record ReadsRecords (e : Equipment) (p : Program) : Type 0 where
   -- an accepted call answers and leaves what it does on the record as that is read

@@ -1,12 +1,8 @@
-pub mod Calls
 pub mod Held
 pub mod Bits
 pub mod LentRecords
 pub mod Sound
 pub mod Powers
-pub mod Alike
-pub mod FirstCause
-pub mod SheetCauses
 pub mod Recovery
 pub mod RideThroughEnds
 pub mod Droop

@@ -24,7 +24,7 @@ use Rattle.rules.specs.declared.Refusal.{Refusal}
 use Rattle.rules.specs.declared.Region.the-variants.{Continuous}
 use Rattle.rules.specs.declared.SettingsCheck.{SettingsCheck}
 use Rattle.claims.specs.Held.{RanOut, WaitFull}
-use Rattle.claims.specs.FirstCause.{Cause, cause, first, sampleCauses}
+use Rattle.causes.specs.FirstCause.{Cause, cause, first, sampleCauses}
 
 -- ---- the samples on lines
 

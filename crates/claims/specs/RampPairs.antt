@@ -12,7 +12,7 @@ use Rattle.rules.specs.History.{History, followedBy, historyReport}
 use Rattle.rules.specs.Images.{imageLength, savedInto}
 use Rattle.rules.specs.declared.Settings.{Settings}
 use Rattle.rules.specs.declared.Board.{Board}
-use Rattle.claims.specs.Calls.{Call, Program, acceptedSamples, Under}
+use Rattle.causes.specs.Calls.{Call, Program, acceptedSamples, Under}
 use Rattle.claims.specs.TwoHistories.{AllAccepted, AgreeWithin, imageAfter}
 
 -- spec 9.1: the ramp count's four bytes in an image stand behind the status and nine counters

@@ -18,9 +18,9 @@ use Rattle.rules.specs.declared.Settings.{Settings}
 use Rattle.rules.specs.declared.Board.{Board}
 use Rattle.rules.specs.declared.Answer.{Answer}
 use Rattle.rules.specs.declared.Region.the-variants.{Continuous}
-use Rattle.claims.specs.Calls.{Call, Program, called, runOf, callAccepted, acceptedSamples, LendsUnder, Under}
+use Rattle.causes.specs.Calls.{Call, Program, called, runOf, callAccepted, acceptedSamples, LendsUnder, Under}
 use Rattle.claims.specs.Held.{Held, RanOut, WaitFull}
-use Rattle.claims.specs.FirstCause.{first, settingsCauses, sampleCauses}
+use Rattle.causes.specs.FirstCause.{first, settingsCauses, sampleCauses}
 
 -- ---- the record that a history gives
 

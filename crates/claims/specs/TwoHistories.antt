@@ -12,7 +12,7 @@ use Rattle.rules.specs.History.{History, followedBy, historyReport}
 use Rattle.rules.specs.Images.{imageLength, savedInto}
 use Rattle.rules.specs.declared.Settings.{Settings}
 use Rattle.rules.specs.declared.Board.{Board}
-use Rattle.claims.specs.Calls.{Call, Program, runOf, acceptedSamples, Under}
+use Rattle.causes.specs.Calls.{Call, Program, runOf, acceptedSamples, Under}
 
 abbrev pub AllAccepted : List Slice → Type 0
 AllAccepted [] = Unit {0}

@@ -17,13 +17,13 @@ use Rattle.rules.specs.Reports.{reportOf}
 use Rattle.rules.specs.History.{History, historyReport}
 use Rattle.rules.specs.declared.Settings.{Settings}
 use Rattle.rules.specs.declared.Board.{Board}
-use Rattle.claims.specs.Calls.{Call, ruledBy, runOf, acceptedSamples, Under}
+use Rattle.causes.specs.Calls.{Call, ruledBy, runOf, acceptedSamples, Under}
 use Rattle.claims.specs.Sound.{Sound}
 use Rattle.claims.specs.TripAndReturn.{recordOf}
 use Rattle.laws.proofs.Events.{recovery-top, side-below, tripped-side, side-none, held-top}
-use Rattle.laws.proofs.Trace.{nine-counters, recovery-is, side-is, held-is}
-use Rattle.laws.proofs.Demand2.{tripped-of, run-is}
-use Rattle.laws.proofs.Recovery.{restores-power}
+use Rattle.theorems.proofs.Trace.{nine-counters, recovery-is, side-is, held-is}
+use Rattle.theorems.proofs.Demand2.{tripped-of, run-is}
+use Rattle.theorems.proofs.Recovery.{restores-power}
 use Rattle.laws.proofs.Images.{fields-then, image-length}
 use Rattle.carryover.specs.CarryOver.{oldLength, addedBytes, carriedForward}
 use Rattle.carryover.specs.Carries.{ourForward, ourBack, newIn, oldIn, oldFields, oldImage, recovered, CarriesRecords, CarriesHistoriesBack}

@@ -3,7 +3,7 @@
 use Rattle.rules.specs.Regions.{ourEquipment}
 use Rattle.rules.specs.History.{historyReport}
 use Rattle.rules.specs.Images.{savedInto}
-use Rattle.laws.proofs.RampPairs.{untold-not-told}
+use Rattle.theorems.proofs.RampPairs.{untold-not-told}
 use Rattle.demands.specs.Demands.{ours}
 use Rattle.demands.specs.Caught.{ShamsCaught, ShamImagesCaught, ShamReadingsCaught}
 use Rattle.demands.specs.Caught.{ShamRecoveryCaught}

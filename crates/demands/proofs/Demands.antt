@@ -14,22 +14,22 @@ use Rattle.rules.specs.Images.{savedInto}
 use Rattle.roots.proofs.Voltages.{voltage-root}
 use Rattle.laws.proofs.FirstCause.{refuses-rightly}
 use Rattle.laws.proofs.SheetCauses.{sheets-refused-rightly}
-use Rattle.laws.proofs.Demand2.{demand2, reports-trip, counter-rule}
-use Rattle.laws.proofs.Demand3.{demand3}
-use Rattle.laws.proofs.Recovery.{restores-power}
-use Rattle.laws.proofs.RideThroughEnds.{ceases-beyond-ride-through}
-use Rattle.laws.proofs.Droop.{droops}
-use Rattle.laws.proofs.RampPairs.{ramps-told-within-five, ramps-untold-within-four}
-use Rattle.laws.proofs.Bits.{bits-unpacked, reports-items, two-histories-reported}
-use Rattle.laws.proofs.LentRecords.{reads-records}
-use Rattle.laws.proofs.Printed.{words-tell}
+use Rattle.theorems.proofs.Demand2.{demand2, reports-trip, counter-rule}
+use Rattle.theorems.proofs.Demand3.{demand3}
+use Rattle.theorems.proofs.Recovery.{restores-power}
+use Rattle.theorems.proofs.RideThroughEnds.{ceases-beyond-ride-through}
+use Rattle.theorems.proofs.Droop.{droops}
+use Rattle.theorems.proofs.RampPairs.{ramps-told-within-five, ramps-untold-within-four}
+use Rattle.theorems.proofs.Bits.{bits-unpacked, reports-items, two-histories-reported}
+use Rattle.theorems.proofs.LentRecords.{reads-records}
+use Rattle.theorems.proofs.Printed.{words-tell}
 use Rattle.laws.proofs.Alike.{step-alike}
 use lib.Signed.{pos-natAbs}
 use Rattle.laws.proofs.Curves.{var-rises, watt-rises, watt-not-negatives}
-use Rattle.laws.proofs.OneCurve.{one-curve}
-use Rattle.laws.proofs.Powers.{nameplate-largest, curve-follows, rising-points}
-use Rattle.power.proofs.CurveLaws.{curve-small, curve-nonNeg}
-use Rattle.power.proofs.PointLists.{powers-small}
+use Rattle.theorems.proofs.OneCurve.{one-curve}
+use Rattle.theorems.proofs.Powers.{nameplate-largest, curve-follows, rising-points}
+use Rattle.powerlaws.proofs.CurveLaws.{curve-small, curve-nonNeg}
+use Rattle.powerlaws.proofs.PointLists.{powers-small}
 use Rattle.formats.proofs.Sheets.{sheet-read-back, sheet-written-out, one-reading, default-written}
 use Rattle.formats.proofs.Forms.{forms-read}
 use Rattle.formats.proofs.SampleLines.{samples-answered, one-answer}
@@ -50,7 +50,7 @@ use Rattle.demands.specs.Demands.{OurLentRecords, LentValues, RightRepor
 use Rattle.claims.specs.TripAndReturn.{Demand2}
 use Rattle.claims.specs.TwoHistories.{Demand3}
 use Rattle.claims.specs.RampPairs.{RampsTold, RampsUntold}
-use Rattle.claims.specs.Calls.{Program}
+use Rattle.causes.specs.Calls.{Program}
 use Rattle.replay.proofs.Groups.{by-seven}
 use Rattle.replay.proofs.Demanded.{replays-rightly}
 use Rattle.saltdelta.proofs.Refusals.{exported-refuse}

@@ -10,7 +10,7 @@ use lib.ListN.{length, take, drop, getD, take-append-drop, length-drop}
 use lib.Seq.{length-take-le, take-suc}
 use Rattle.rules.specs.Images.{numberBytes, Field, field, fieldBytes, image, imageLength}
 use Rattle.rules.specs.declared.Board.{Board}
-use Rattle.claims.specs.FirstCause.{first}
+use Rattle.causes.specs.FirstCause.{first}
 use Rattle.carryover.specs.CarryOver.{oldLength, addedBytes, carriedForward, forwardCauses, backCauses}
 use Rattle.carryover.specs.Carries.{CarryOutcome, CarryOperation, ourForward, ourBack, AllBytes, CarryRefusedRightly, newIn, oldIn, oldFields, oldImage, recovered, CarriesRecords}
 use Rattle.carryover.proofs.Carrying.{whole, refused-rightly}

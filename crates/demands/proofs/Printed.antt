@@ -21,7 +21,7 @@ use Rattle.formats.proofs.Samples.{sample-read, sample-written}
 use Rattle.formats.proofs.SampleLines.{numbers-same}
 use Rattle.claims.specs.Sound.{Sound}
 use Rattle.claims.specs.Printed.{asSlice, sampleOn, Printed, readPart, PrintsByHistory}
-use Rattle.laws.proofs.Printed.{lines-printed, one-printed}
+use Rattle.theorems.proofs.Printed.{lines-printed, one-printed}
 
 -- ---- the transcript
 

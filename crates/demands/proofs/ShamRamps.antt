@@ -23,18 +23,19 @@ use Rattle.rules.specs.History.{History, streak, serving, climbed, sinceCessati
 use Rattle.rules.specs.declared.Settings.{Settings}
 use Rattle.rules.specs.declared.Board.{Board}
 use Rattle.rules.specs.declared.Report.{Report}
-use Rattle.claims.specs.Calls.{Call, Run, calledAll, runOf, acceptedSamples, Under}
+use Rattle.causes.specs.Calls.{Call, Run, calledAll, runOf, acceptedSamples, Under}
 use Rattle.claims.specs.TripAndReturn.{recordOf}
 use Rattle.claims.specs.TwoHistories.{AgreeWithin, imageAfter}
 use Rattle.claims.specs.RampPairs.{RampAlone, RampsToldBy, RampsUntoldBy}
-use Rattle.laws.proofs.Trace.{nine-counters}
+use Rattle.theorems.proofs.Trace.{nine-counters}
 use Rattle.laws.proofs.Limits.{limits-in}
-use Rattle.laws.proofs.Demand2.{refused-step, at, calls-by, fresh-by}
-use Rattle.laws.proofs.Demand3.{saved-image, saved-is}
+use Rattle.theorems.proofs.Demand2.{at, calls-by, fresh-by}
+use Rattle.laws.proofs.Steps.{refused-step}
+use Rattle.theorems.proofs.Demand3.{saved-image, saved-is}
 use Rattle.laws.proofs.Shares.{SharesAgree}
-use Rattle.laws.proofs.RampBytes.{counts-differ}
-use Rattle.laws.proofs.RampAlone.{withRamp, image-alone, histories-agree}
-use Rattle.laws.proofs.RampPairs.{buffer, room, untold-not-told}
+use Rattle.theorems.proofs.RampBytes.{counts-differ}
+use Rattle.theorems.proofs.RampAlone.{withRamp, image-alone, histories-agree}
+use Rattle.theorems.proofs.RampPairs.{buffer, room, untold-not-told}
 use Rattle.demands.specs.ShamRamps.{longer, sixSamples, reportLonger, reportCounted}
 use Rattle.demands.specs.Demands.{ours}
 use Rattle.demands.proofs.Sound.{our-equipment-sound}

@@ -20,8 +20,8 @@ use Rattle.rules.specs.declared.Board.{Board}
 use Rattle.rules.specs.declared.Refusal.the-variants.{Range}
 use Rattle.rules.specs.declared.SettingsCheck.{SettingsCheck}
 use Rattle.formats.specs.Sheets.{writtenSheet}
-use Rattle.claims.specs.FirstCause.{RefusesRightly}
-use Rattle.claims.specs.SheetCauses.{FirstCauseAt, SheetsRefusedRightly}
+use Rattle.causes.specs.FirstCause.{RefusesRightly}
+use Rattle.causes.specs.SheetCauses.{FirstCauseAt, SheetsRefusedRightly}
 use Rattle.laws.proofs.SheetCauses.{sheets-refused-rightly}
 use Rattle.demands.specs.Shams.{exampleSheet, refusesNoWait}
 use Rattle.demands.specs.ShamRefusals.{refusesLastCode, storesReading, sampleFirst, writesWhatFits, linesFromZero, handsRest}

@@ -23,13 +23,14 @@ use Rattle.rules.specs.declared.Board.{Board}
 use Rattle.rules.specs.declared.Report.{Report}
 use Rattle.rules.specs.declared.Answer.{Answer}
 use Rattle.rules.specs.declared.Stepped.{Stepped}
-use Rattle.claims.specs.Calls.{Call, Run, ruledBy, lastReport, called, calledAll, runOf, callAccepted, acceptedSamples, Under}
+use Rattle.causes.specs.Calls.{Call, Run, ruledBy, lastReport, called, calledAll, runOf, callAccepted, acceptedSamples, Under}
 use Rattle.claims.specs.TripAndReturn.{statusBefore, statusNow, Next, Shows, Refuses, Keeps, Trips, Returns, ReturnsContinuous, TripAndReturn}
 use Rattle.basics.proofs.Bools.{both}
 use Rattle.laws.proofs.FirstCause.{step-number}
-use Rattle.laws.proofs.Trace.{service-is}
-use Rattle.laws.proofs.Trip.{return-law, return-continuous}
-use Rattle.laws.proofs.Demand2.{demand2, accepted-step, refused-step, service-of, statuses-trip, statuses-return, statuses-continuous}
+use Rattle.theorems.proofs.Trace.{service-is}
+use Rattle.theorems.proofs.Trip.{return-law, return-continuous}
+use Rattle.theorems.proofs.Demand2.{demand2, service-of, statuses-trip, statuses-return, statuses-continuous}
+use Rattle.laws.proofs.Steps.{accepted-step, refused-step}
 use Rattle.demands.specs.Shams.{exampleSheet, reshown, showing, turnedOver, entering, tripped, inventsBits, hidesTrips, saysTripped}
 use Rattle.demands.proofs.Sound.{our-equipment-sound}
 use Rattle.demands.proofs.Shams.{quick-accepted}

@@ -25,14 +25,14 @@ use Rattle.rules.specs.declared.Settings.{Settings}
 use Rattle.rules.specs.declared.Board.{Board}
 use Rattle.rules.specs.declared.Report.{Report}
 use Rattle.rules.specs.declared.Stepped.{Stepped}
-use Rattle.claims.specs.Calls.{Call, ruledBy}
+use Rattle.causes.specs.Calls.{Call, ruledBy}
 use Rattle.rules.specs.Refusals.{answerNumber}
 use Rattle.claims.specs.TripAndReturn.{recordOf, TripAndReturn}
 use Rattle.claims.specs.LentRecords.{ReadsRecords}
 use Rattle.claims.specs.Recovery.{RestoresPower}
 use Rattle.claims.specs.RideThroughEnds.{CeasesBeyondRideThrough}
 use Rattle.claims.specs.TwoHistories.{TwoHistoriesBy}
-use Rattle.laws.proofs.RampPairs.{buffer}
+use Rattle.theorems.proofs.RampPairs.{buffer}
 use Rattle.demands.specs.Shams.{exampleSheet, tripsEarly, inventsCounters, alwaysTripped, repeatsFirst, keepsRecord, turnsAway, takesAsLent}
 use Rattle.demands.specs.ShamRefusals.{refusesLastCode}
 use Rattle.demands.specs.Shams.{turnsAwayLastCode, savedWithoutRamp, savedWithoutNinth, savedWithoutRecovery, savedWithoutSide, savedWithoutHeld, reportWithoutBits}

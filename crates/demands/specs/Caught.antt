@@ -16,12 +16,12 @@ use Rattle.rules.specs.declared.Settings.{Settings}
 use Rattle.formats.specs.Sheets.{ReadsSheetsBack, AcceptsSheetsOnly}
 use Rattle.formats.specs.Marks.{ReadsForms}
 use Rattle.formats.specs.Samples.{AnswersSamples}
-use Rattle.claims.specs.Calls.{Call, runOf, acceptedSamples, Under}
+use Rattle.causes.specs.Calls.{Call, runOf, acceptedSamples, Under}
 use Rattle.claims.specs.Recovery.{RestoresPower}
 use Rattle.claims.specs.RideThroughEnds.{CeasesBeyondRideThrough}
 use Rattle.claims.specs.Droop.{Droops}
-use Rattle.claims.specs.FirstCause.{RefusesRightly}
-use Rattle.claims.specs.SheetCauses.{SheetsRefusedRightly}
+use Rattle.causes.specs.FirstCause.{RefusesRightly}
+use Rattle.causes.specs.SheetCauses.{SheetsRefusedRightly}
 use Rattle.claims.specs.TripAndReturn.{Shows, Refuses, Keeps, Trips, Returns, ReturnsContinuous, TripAndReturn}
 use Rattle.claims.specs.TwoHistories.{TwoHistoriesBy}
 use Rattle.claims.specs.RampPairs.{RampsToldBy, RampsUntoldBy, RampsTold, RampsUntold}

@@ -26,8 +26,8 @@ use Rattle.rules.specs.Regions.{ourEquipment}
 use Rattle.rules.specs.Refusals.{settingsNumber, lineOf, sensedNumber, answerNumber, savedNumber}
 use Rattle.rules.specs.Records.{fresh, stepOf}
 use Rattle.rules.specs.Images.{imageLength, saveCheck, savedInto}
-use Rattle.claims.specs.Calls.{freshReport}
-use Rattle.claims.specs.FirstCause.{cause, first, settingsCauses, sampleCauses, causeLine}
+use Rattle.causes.specs.Calls.{freshReport}
+use Rattle.causes.specs.FirstCause.{cause, first, settingsCauses, sampleCauses, causeLine}
 use Rattle.carryover.specs.CarryOver.{carryNumber, forwardAnswer, backAnswer, forwardInto, backInto, forwardCauses, backCauses}
 use Rattle.explain.specs.Numbers.{explainedNumber}
 use Rattle.explain.specs.Explained.{explainedStep, freshAnswer}

@@ -53,15 +53,15 @@ use Rattle.roots.specs.Root.{IsRoot}
 use Rattle.program.specs.States.{isDone}
 use Rattle.program.specs.Sessions.{Delivery, opened, during, ending, inputOf, TranscriptLaw}
 use Rattle.program.specs.Standing.{StandingLaw}
-use Rattle.claims.specs.Calls.{Program, ruledBy, Operations, operationsBy}
+use Rattle.causes.specs.Calls.{Program, ruledBy, Operations, operationsBy}
 use Rattle.claims.specs.Sound.{Sound}
-use Rattle.claims.specs.Alike.{Alike}
+use Rattle.causes.specs.Alike.{Alike}
 use Rattle.claims.specs.Recovery.{RestoresPower}
 use Rattle.claims.specs.RideThroughEnds.{CeasesBeyondRideThrough}
 use Rattle.claims.specs.Droop.{Droops}
 use Rattle.claims.specs.Powers.{LargestBeside, RisingPoints, FollowsPoints}
-use Rattle.claims.specs.FirstCause.{RefusesRightly}
-use Rattle.claims.specs.SheetCauses.{SheetsRefusedRightly}
+use Rattle.causes.specs.FirstCause.{RefusesRightly}
+use Rattle.causes.specs.SheetCauses.{SheetsRefusedRightly}
 use Rattle.claims.specs.TripAndReturn.{Shows, Answers, Trips, Returns, TripAndReturn, CounterRule}
 use Rattle.claims.specs.TripAndReturn.{Demand2}
 use Rattle.claims.specs.TwoHistories.{TwoHistoriesBy, Demand3By, Demand3}

@@ -6,7 +6,7 @@ use Prim.Native.Nat.{ℕ, zero, suc}
 use lib.Dec.{eqb, leb}
 use lib.ListN.{length, take, drop}
 use Rattle.rules.specs.Images.{imageLength}
-use Rattle.claims.specs.FirstCause.{cause, first}
+use Rattle.causes.specs.FirstCause.{cause, first}
 use Rattle.carryover.specs.CarryOver.{oldLength, carriedForward, carriedBack, hasAdded, forwardCauses}
 use Rattle.carryover.specs.Carries.{CarryOutcome, CarryOperation, ourForward, ourBack}
 

@@ -12,7 +12,7 @@ use Rattle.rules.specs.declared.Settings.{Settings}
 use Rattle.rules.specs.declared.Board.{Board}
 use Rattle.rules.specs.declared.Answer.{Answer}
 use Rattle.rules.specs.declared.Stepped.{Stepped}
-use Rattle.claims.specs.Calls.{Program}
+use Rattle.causes.specs.Calls.{Program}
 
 -- a sheet with its ramp a step longer
 abbrev pub longer : Settings → Settings

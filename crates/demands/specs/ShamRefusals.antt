@@ -20,7 +20,7 @@ use Rattle.rules.specs.declared.Refusal.the-variants.{Code}
 use Rattle.rules.specs.declared.SettingsCheck.{SettingsCheck}
 use Rattle.rules.specs.declared.SampleCheck.{SampleCheck}
 use Rattle.rules.specs.declared.Stepped.{Stepped}
-use Rattle.claims.specs.Calls.{Operations}
+use Rattle.causes.specs.Calls.{Operations}
 
 -- ---- sham operations: ours, but for the step or the buffer
 

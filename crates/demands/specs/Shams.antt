@@ -37,7 +37,7 @@ use Rattle.rules.specs.declared.SettingsCheck.{SettingsCheck}
 use Rattle.rules.specs.declared.Answer.{Answer}
 use Rattle.rules.specs.declared.Stepped.{Stepped}
 use Rattle.formats.specs.Samples.{Answering}
-use Rattle.claims.specs.Calls.{Program}
+use Rattle.causes.specs.Calls.{Program}
 use Rattle.claims.specs.Printed.{readPart}
 use Rattle.demands.specs.ShamRefusals.{refusesLastCode}
 

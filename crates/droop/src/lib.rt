@@ -3,7 +3,7 @@ ghost use mathlib.Core.Path.{_≡_};
 ghost use mathlib.Core.Bool.{cond};
 ghost use Prim.Native.Nat.{_≤_, min};
 ghost use Rattle.rules.specs.Droop.{noSide, lowSide, sideOf, sideAfter, knownSide, heldAfter, tenThirds, drooped};
-use readings::reading::smaller;
+use numbers::smaller;
 
 // The ends of the deadband; `deadbandHigh` and `deadbandLow` in the specs of `rules`.
 const DEADBAND_HIGH: u32 = 60036;

@@ -11,12 +11,12 @@ use Rattle.rules.specs.Records.{stepOf}
 use Rattle.rules.specs.declared.Settings.{Settings}
 use Rattle.rules.specs.declared.Board.{Board}
 use Rattle.rules.specs.declared.Stepped.{Stepped}
-use Rattle.claims.specs.Alike.{Alike}
+use Rattle.causes.specs.Alike.{Alike}
 use Rattle.basics.proofs.Bools.{both}
 use Rattle.laws.proofs.Accepted.{SampleRight, sample-right}
 use Rattle.laws.proofs.Alike.{lowest-alike, highest-alike, mean-alike, region-alike, trips-alike, step-alike}
 use Rattle.laws.proofs.SameRules.{full-same}
-use Rattle.laws.proofs.Demand2.{refused-step}
+use Rattle.laws.proofs.Steps.{refused-step}
 use Rattle.explain.specs.Explained.{statusRule, regionCause, recordStatusRule, recordWattsRule, withRules, explainedStep}
 use Rattle.explain.specs.declared.StatusRule.{StatusRule}
 use Rattle.explain.specs.declared.WattsRule.{WattsRule}

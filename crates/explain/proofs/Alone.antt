@@ -13,7 +13,7 @@ use Rattle.rules.specs.declared.Refusal.{Refusal}
 use Rattle.rules.specs.declared.SettingsCheck.{SettingsCheck}
 use Rattle.rules.specs.declared.Answer.{Answer}
 use Rattle.rules.specs.declared.Stepped.{Stepped}
-use Rattle.claims.specs.FirstCause.{first, settingsCauses, sampleCauses}
+use Rattle.causes.specs.FirstCause.{first, settingsCauses, sampleCauses}
 use Rattle.laws.proofs.FirstCause.{step-number}
 use Rattle.service.proofs.Stepping.{settings-refused}
 use Rattle.explain.specs.Numbers.{explainedNumber}

@@ -17,8 +17,8 @@ use Rattle.rules.specs.declared.Settings.{Settings}
 use Rattle.claims.specs.Held.{Held, brokenAt, WaitFull}
 use Rattle.rules.specs.Regions.{regionOf}
 use Rattle.laws.proofs.Events.{giving-side}
-use Rattle.laws.proofs.Trip.{complete-held, ran-out, trip-law, return-law}
-use Rattle.laws.proofs.Demand2.{service-of}
+use Rattle.theorems.proofs.Trip.{complete-held, ran-out, trip-law, return-law}
+use Rattle.theorems.proofs.Demand2.{service-of}
 use Rattle.explain.specs.Explained.{historyStatusRule, historyWattsRule}
 use Rattle.explain.specs.Explains.{servesAfter, StatusNamed, NamesStatusRule, WattsNamed, NamesWattsRule}
 use Rattle.explain.specs.declared.StatusRule.{StatusRule}

@@ -20,8 +20,8 @@ use Rattle.rules.specs.declared.Board.{Board}
 use Rattle.rules.specs.declared.Report.{Report}
 use Rattle.rules.specs.declared.Answer.{Answer}
 use Rattle.claims.specs.Bits.{bitAt}
-use Rattle.laws.proofs.Bits.{bits-unpacked}
-use Rattle.laws.proofs.Trace.{service-status, kept-service}
+use Rattle.theorems.proofs.Bits.{bits-unpacked}
+use Rattle.laws.proofs.Statuses.{service-status, kept-service}
 use Rattle.explain.specs.Explained.{statusRule, wattsRule, regionCause, recordStatusRule, recordWattsRule, withRules, explainedStep}
 use Rattle.explain.specs.Explains.{answerAlone, StatusNamed, WattsNamed, NamesOnRecords, explainedBy}
 use Rattle.explain.specs.declared.StatusRule.{StatusRule}

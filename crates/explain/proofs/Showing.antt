@@ -16,13 +16,14 @@ use Rattle.rules.specs.declared.Board.{Board}
 use Rattle.rules.specs.declared.Report.{Report}
 use Rattle.rules.specs.declared.Refusal.{Refusal}
 use Rattle.rules.specs.declared.Stepped.{Stepped}
-use Rattle.claims.specs.Calls.{Call, Run, Program, ruledBy, runOf, callAccepted, acceptedSamples, Under}
-use Rattle.claims.specs.FirstCause.{first, settingsCauses, sampleCauses}
+use Rattle.causes.specs.Calls.{Call, Run, Program, ruledBy, runOf, callAccepted, acceptedSamples, Under}
+use Rattle.causes.specs.FirstCause.{first, settingsCauses, sampleCauses}
 use Rattle.claims.specs.TripAndReturn.{recordOf, Next}
 use Rattle.basics.proofs.Bools.{both}
-use Rattle.laws.proofs.Counting.{full-is, each-of}
-use Rattle.laws.proofs.Trace.{counters-are, service-is, ramp-is, recovery-is, held-is, next-is, status-is, vars-is, shown-is}
-use Rattle.laws.proofs.Demand2.{accepted-step, refused-step, fresh-is, run-is}
+use Rattle.theorems.proofs.Counting.{full-is, each-of}
+use Rattle.theorems.proofs.Trace.{counters-are, service-is, ramp-is, recovery-is, held-is, next-is, status-is, vars-is, shown-is}
+use Rattle.theorems.proofs.Demand2.{fresh-is, run-is}
+use Rattle.laws.proofs.Steps.{accepted-step, refused-step}
 use Rattle.explain.specs.Explained.{statusRule, regionCause, historyStatusRule, historyWattsRule, recordStatusRule, recordWattsRule, explainedStep}
 use Rattle.explain.specs.Explains.{boardAlone, explainedBy, explainedTo, explainedHistory, ShowsRules}
 use Rattle.explain.specs.declared.StatusRule.{StatusRule}

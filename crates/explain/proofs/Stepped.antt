@@ -25,12 +25,12 @@ use Rattle.rules.specs.declared.Board.{Board}
 use Rattle.rules.specs.declared.Report.{Report}
 use Rattle.rules.specs.declared.Answer.{Answer}
 use Rattle.rules.specs.declared.Stepped.{Stepped}
-use Rattle.claims.specs.Calls.{freshReport, lastReport}
+use Rattle.causes.specs.Calls.{freshReport, lastReport}
 use Rattle.laws.proofs.Events.{giving-side}
 use Rattle.laws.proofs.Curves.{var-rises}
-use Rattle.laws.proofs.Demand2.{accepted-step, refused-step}
-use Rattle.power.proofs.CurveLaws.{curve-small}
-use Rattle.power.proofs.PointLists.{powers-small}
+use Rattle.laws.proofs.Steps.{accepted-step, refused-step}
+use Rattle.powerlaws.proofs.CurveLaws.{curve-small}
+use Rattle.powerlaws.proofs.PointLists.{powers-small}
 use Rattle.service.proofs.Stepping.{each-length, full-last}
 use Rattle.explain.specs.Explained.{statusRule, wattsRule, regionCause, recordStatusRule, recordWattsRule, withRules, explainedStep}
 use Rattle.explain.specs.declared.StatusRule.{StatusRule}

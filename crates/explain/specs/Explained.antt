@@ -17,7 +17,7 @@ use Rattle.rules.specs.declared.Settings.{Settings}
 use Rattle.rules.specs.declared.Board.{Board}
 use Rattle.rules.specs.declared.Region.{Region}
 use Rattle.rules.specs.declared.Answer.{Answer}
-use Rattle.claims.specs.Calls.{freshReport}
+use Rattle.causes.specs.Calls.{freshReport}
 use Rattle.explain.specs.declared.StatusRule.{StatusRule}
 use Rattle.explain.specs.declared.WattsRule.{WattsRule}
 use Rattle.explain.specs.declared.ExplainedAnswer.{ExplainedAnswer}

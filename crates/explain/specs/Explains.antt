@@ -23,9 +23,9 @@ use Rattle.rules.specs.declared.Report.{Report}
 use Rattle.rules.specs.declared.Refusal.{Refusal}
 use Rattle.rules.specs.declared.Answer.{Answer}
 use Rattle.rules.specs.declared.Stepped.{Stepped}
-use Rattle.claims.specs.Calls.{Call, Program, runOf, callAccepted, acceptedSamples, Under}
+use Rattle.causes.specs.Calls.{Call, Program, runOf, callAccepted, acceptedSamples, Under}
 use Rattle.claims.specs.Bits.{bitAt}
-use Rattle.claims.specs.FirstCause.{first, settingsCauses, sampleCauses}
+use Rattle.causes.specs.FirstCause.{first, settingsCauses, sampleCauses}
 use Rattle.claims.specs.Held.{Held, brokenAt, WaitFull}
 use Rattle.claims.specs.TripAndReturn.{Next}
 use Rattle.explain.specs.Numbers.{statusRuleNumber, limitPlace, wattsRuleNumber}

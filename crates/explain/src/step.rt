@@ -4,7 +4,7 @@ ghost use mathlib.Core.Bool.{true};
 ghost use mathlib.Core.List.{_++_};
 ghost use Rattle.rules.specs.Settings.{settingsAccepted};
 ghost use Rattle.rules.specs.Regions.{ourEquipment, equippedWith};
-ghost use Rattle.claims.specs.FirstCause.{first, settingsCauses, sampleCauses};
+ghost use Rattle.causes.specs.FirstCause.{first, settingsCauses, sampleCauses};
 ghost use Rattle.explain.specs.Explained.{explainedStep};
 ghost use Rattle.explain.specs.Numbers.{explainedNumber};
 use crate::ExplainedAnswer;

@@ -5,7 +5,7 @@ ghost use Prim.Native.Nat.{_+_, _≤_};
 ghost use lib.Dec.{ltb};
 ghost use lib.ListN.{length};
 ghost use Rattle.buffers.specs.Written.{written, Wrote};
-ghost use Rattle.claims.specs.FirstCause.{cause, first};
+ghost use Rattle.causes.specs.FirstCause.{cause, first};
 ghost use Rattle.rules.specs.Refusals.{savedNumber};
 ghost use Rattle.rules.specs.Images.{field, fieldBytes, twosComplement, image, imageLength, saveCheck, savedInto};
 use rules::Board;

@@ -16,7 +16,7 @@ use Rattle.rules.specs.declared.Settings.{Settings}
 use Rattle.rules.specs.declared.Board.{Board}
 use Rattle.rules.specs.declared.SettingsCheck.{SettingsCheck}
 use Rattle.rules.specs.declared.SampleCheck.{SampleCheck}
-use Rattle.claims.specs.Alike.{Alike}
+use Rattle.causes.specs.Alike.{Alike}
 use Rattle.laws.proofs.Accepted.{SampleRight, sample-right}
 use Rattle.laws.proofs.SameRules.{SameRules, same-append, counted-same, full-same, capped-same}
 

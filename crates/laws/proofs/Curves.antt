@@ -17,7 +17,7 @@ use Rattle.rules.specs.declared.Point.{Point}
 use Rattle.rules.specs.declared.Settings.{Settings}
 use Rattle.basics.proofs.Bools.{both, at-all}
 use Rattle.laws.proofs.Accepted.{rowAt, sheet-line}
-use Rattle.power.specs.Points.{Allowed, RisesFrom, Rises, NonNegative}
+use Rattle.powerlaws.specs.Points.{Allowed, RisesFrom, Rises, NonNegative}
 
 -- a power fits 16 bits
 pub fits16 : (z : ℤ) → natAbs z ≤ 10000 → SFits w16 z

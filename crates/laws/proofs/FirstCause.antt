@@ -23,8 +23,8 @@ use Rattle.rules.specs.declared.Sensed.{Sensed}
 use Rattle.rules.specs.declared.Saved.{Saved}
 use Rattle.rules.specs.declared.SettingsCheck.{SettingsCheck}
 use Rattle.rules.specs.declared.SampleCheck.{SampleCheck}
-use Rattle.claims.specs.Calls.{operationsBy}
-use Rattle.claims.specs.FirstCause.{Cause, cause, first, lineCauses, settingsCauses, sampleCauses, causeLine, RefusesRightly}
+use Rattle.causes.specs.Calls.{operationsBy}
+use Rattle.causes.specs.FirstCause.{Cause, cause, first, lineCauses, settingsCauses, sampleCauses, causeLine, RefusesRightly}
 use Rattle.laws.proofs.Images.{image-length}
 
 -- a number above a bound

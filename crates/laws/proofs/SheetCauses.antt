@@ -24,8 +24,8 @@ use Rattle.rules.specs.Sheets.{SheetReading, pairs, settingsOf, refusedAt, onNu
 use Rattle.rules.specs.declared.Refusal.{Refusal}
 use Rattle.rules.specs.declared.Refusal.the-variants.{Form, Range, Rise}
 use Rattle.rules.specs.declared.SettingsCheck.{SettingsCheck}
-use Rattle.claims.specs.FirstCause.{first}
-use Rattle.claims.specs.SheetCauses.{fromLine, numbersBy, causesBy, pairsBy, causeAt, lineCause, linePairs, FirstCauseAt, SheetsRefusedRightly}
+use Rattle.causes.specs.FirstCause.{first}
+use Rattle.causes.specs.SheetCauses.{fromLine, numbersBy, causesBy, pairsBy, causeAt, lineCause, linePairs, FirstCauseAt, SheetsRefusedRightly}
 
 -- ---- what follows the first line
 

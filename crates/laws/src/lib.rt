@@ -1,1 +1,1 @@
-// What follows from the definitions alone, for any equipment with the facts of `Sound`. No code: the laws stand in proofs/.
+// What follows from the definitions alone and the proofs of the parts cite. No code: the laws stand in proofs/.

@@ -9,10 +9,10 @@ use lib.Signed.{quotZ}
 use mir.Syntax.{w32}
 use mir.Val.{SFits, toZ, ofZ}
 use mir.Facts.{toZ-ofZ, toZ-pos}
-use Rattle.power.specs.Points.{Inside}
+use Rattle.powerlaws.specs.Points.{Inside}
 use Rattle.basics.proofs.Signs.{abs-neg}
-use Rattle.power.proofs.Magnitude.{fits, kept, abs-add, abs-mul, abs-quot}
-use Rattle.power.proofs.Shares.{no-share, between-small}
+use Rattle.powerlaws.proofs.Magnitude.{fits, kept, abs-add, abs-mul, abs-quot}
+use Rattle.powerlaws.proofs.Shares.{no-share, between-small}
 
 abbrev back : ℤ → ℤ
 back z = toZ w32 (ofZ w32 z)

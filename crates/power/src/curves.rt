@@ -5,7 +5,7 @@ ghost use Prim.Native.Nat.{_≤_};
 ghost use lib.IntN.{pos, natAbs, _+ℤ_, _-ℤ_, _*ℤ_};
 ghost use lib.Signed.{quotZ};
 ghost use Rattle.rules.specs.Curves.{curve};
-ghost use Rattle.power.specs.Points.{Inside, Rises, NonNegative};
+ghost use Rattle.powerlaws.specs.Points.{Inside, Rises, NonNegative};
 use rules::Point;
 
 // Between two points: the left power plus (power difference times distance by gap), the quotient cut toward zero.

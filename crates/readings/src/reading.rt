@@ -2,13 +2,15 @@
 ghost use mathlib.Core.Path.{_≡_};
 ghost use mathlib.Core.Bool.{true};
 ghost use mathlib.Core.List.{[], _∷_};
-ghost use Prim.Native.Nat.{min, max};
 ghost use lib.Dec.{leb};
 ghost use Rattle.rules.specs.Tests.{all, within};
 ghost use Rattle.rules.specs.Sensing.{lastCode};
 ghost use Rattle.rules.specs.Samples.{sampleCheck, sampleAccepted};
 ghost use Rattle.rules.specs.Regions.{equippedWith};
 ghost use Rattle.readings.specs.Readings.{readingOf};
+use numbers::larger;
+use numbers::smaller;
+use numbers::within;
 use rules::Refusal;
 use rules::SampleCheck;
 use sensing::volts;
@@ -22,16 +24,6 @@ pub struct Reading {
     pub permit: bool,
     pub available: u32,
     pub limit: u32,
-}
-
-// A range with both ends included.
-pub fn within(low: u32, high: u32, n: u32) -> bool
-    ensures { λ r. ⌜ r ≡ within low high n ⌝ }
-{
-    if n < low {
-        return false;
-    }
-    n <= high
 }
 
 fn codes_known(a: u32, b: u32, c: u32) -> bool
@@ -75,18 +67,6 @@ pub fn check(x: &[u32]) -> SampleCheck
         return SampleCheck::Refused(Refusal::Power);
     }
     SampleCheck::Accepted
-}
-
-pub fn smaller(a: u32, b: u32) -> u32
-    ensures { λ r. ⌜ r ≡ min a b ⌝ }
-{
-    if a < b { a } else { b }
-}
-
-fn larger(a: u32, b: u32) -> u32
-    ensures { λ r. ⌜ r ≡ max a b ⌝ }
-{
-    if a < b { b } else { a }
 }
 
 // The reading of an accepted slice, by a lent sensing table.

@@ -4,7 +4,7 @@ ghost use mathlib.Core.Bool.{true};
 ghost use Prim.Native.Nat.{_≤_, min};
 ghost use Rattle.rules.specs.Regions.{ceases};
 ghost use Rattle.rules.specs.Service.{recoveryTop, recovering, recoveryLimit};
-use readings::reading::smaller;
+use numbers::smaller;
 use rules::RECOVERY_TOP;
 use rules::Region;
 

@@ -18,8 +18,8 @@ use Rattle.rules.specs.declared.Settings.{Settings}
 use Rattle.rules.specs.declared.Refusal.{Refusal}
 use Rattle.rules.specs.declared.Refusal.the-variants.{Buffer}
 use Rattle.rules.specs.declared.SettingsCheck.{SettingsCheck}
-use Rattle.claims.specs.Calls.{freshReport, acceptedSamples}
-use Rattle.claims.specs.FirstCause.{Cause, cause, first, lineCauses, settingsCauses}
+use Rattle.causes.specs.Calls.{freshReport, acceptedSamples}
+use Rattle.causes.specs.FirstCause.{Cause, cause, first, lineCauses, settingsCauses}
 use Rattle.basics.proofs.Refusals.{number-bounds}
 use Rattle.laws.proofs.FirstCause.{refuses-rightly}
 use Rattle.replay.specs.Replays.{callsOf, runOver, ran, replayNumber, unlessRefused, replayRefused, replayed, replayedInto}

@@ -16,7 +16,7 @@ use Rattle.rules.specs.Images.{imageLength, savedInto}
 use Rattle.rules.specs.declared.Settings.{Settings}
 use Rattle.rules.specs.declared.Board.{Board}
 use Rattle.rules.specs.declared.SettingsCheck.{SettingsCheck}
-use Rattle.claims.specs.Calls.{Call, Program, Run, ruledBy, called, calledAll, runOf}
+use Rattle.causes.specs.Calls.{Call, Program, Run, ruledBy, called, calledAll, runOf}
 use Rattle.claims.specs.Sound.{Sound}
 use Rattle.claims.specs.TripAndReturn.{Next, TripAndReturn}
 use Rattle.claims.specs.Printed.{joined}
@@ -24,10 +24,10 @@ use Rattle.claims.specs.TwoHistories.{AllAccepted, Agree}
 use Rattle.basics.proofs.Refusals.{number-bounds}
 use Rattle.laws.proofs.Accepted.{sample-right}
 use Rattle.laws.proofs.FirstCause.{refuses-rightly}
-use Rattle.laws.proofs.Trace.{counters-are}
-use Rattle.laws.proofs.Demand2.{demand2}
-use Rattle.laws.proofs.Demand3.{demand3}
-use Rattle.laws.proofs.Bits.{reports-items}
+use Rattle.theorems.proofs.Trace.{counters-are}
+use Rattle.theorems.proofs.Demand2.{demand2}
+use Rattle.theorems.proofs.Demand3.{demand3}
+use Rattle.theorems.proofs.Bits.{reports-items}
 use Rattle.replay.specs.Replays.{groupLength, callOf, callsOf, runOver, replayNumber, unlessRefused, replayed, replayedInto}
 use Rattle.replay.specs.Demanded.{historyOf, Lends, Whole, OneMore, ReplaysRightly}
 use Rattle.replay.specs.declared.Replayed.{Replayed}

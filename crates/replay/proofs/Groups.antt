@@ -10,7 +10,7 @@ use lib.ListN.{length, take, drop, length-append, length-drop, drop-of-length-le
 use lib.Seq.{take-at, drop-at, take-all, take-append-le, drop-append-le, drop-drop}
 use Rattle.rules.specs.Samples.{Slice}
 use Rattle.rules.specs.declared.Settings.{Settings}
-use Rattle.claims.specs.Calls.{Call, Under}
+use Rattle.causes.specs.Calls.{Call, Under}
 use Rattle.replay.specs.Replays.{groupLength, nextGroups, groups, callOf, callsOf}
 use Rattle.replay.specs.Demanded.{GroupsBySeven}
 

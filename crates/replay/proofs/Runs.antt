@@ -10,7 +10,7 @@ use Rattle.rules.specs.Settings.{settingsAccepted}
 use Rattle.rules.specs.Samples.{Slice}
 use Rattle.rules.specs.History.{History, followedBy}
 use Rattle.rules.specs.declared.Settings.{Settings}
-use Rattle.claims.specs.Calls.{Call, acceptedOne, acceptedAfter, acceptedSamples}
+use Rattle.causes.specs.Calls.{Call, acceptedOne, acceptedAfter, acceptedSamples}
 use Rattle.claims.specs.Printed.{joined}
 use Rattle.claims.specs.TwoHistories.{AllAccepted}
 use Rattle.laws.proofs.Accepted.{sample-right}

@@ -18,10 +18,10 @@ use Rattle.rules.specs.declared.Report.{Report}
 use Rattle.rules.specs.declared.Refusal.{Refusal}
 use Rattle.rules.specs.declared.Answer.{Answer}
 use Rattle.rules.specs.declared.Stepped.{Stepped}
-use Rattle.claims.specs.Calls.{Call, Run, Program, ruledBy, freshReport, lastReport, calledAll, callAccepted, acceptedAfter, acceptedSamples}
+use Rattle.causes.specs.Calls.{Call, Run, Program, ruledBy, freshReport, lastReport, calledAll, callAccepted, acceptedAfter, acceptedSamples}
 use Rattle.basics.proofs.Bools.{both}
 use Rattle.basics.proofs.Refusals.{number-bounds}
-use Rattle.laws.proofs.Demand2.{accepted-step, refused-step}
+use Rattle.laws.proofs.Steps.{accepted-step, refused-step}
 use Rattle.replay.specs.Replays.{groupLength, callOf, callsOf, runOver, ran}
 use Rattle.replay.specs.declared.Ran.{Ran}
 use Rattle.replay.proofs.Groups.{calls-none, calls-next, group-lent, groups-left}

@@ -16,9 +16,9 @@ use Rattle.rules.specs.History.{History, historyReport}
 use Rattle.rules.specs.Images.{imageLength}
 use Rattle.rules.specs.declared.Settings.{Settings}
 use Rattle.rules.specs.declared.Region.the-variants.{Continuous}
-use Rattle.claims.specs.Calls.{acceptedSamples}
+use Rattle.causes.specs.Calls.{acceptedSamples}
 use Rattle.claims.specs.Held.{RanOut, WaitFull}
-use Rattle.claims.specs.FirstCause.{cause, first, settingsCauses}
+use Rattle.causes.specs.FirstCause.{cause, first, settingsCauses}
 use Rattle.claims.specs.Printed.{joined}
 use Rattle.claims.specs.TwoHistories.{AllAccepted, Agree}
 use Rattle.replay.specs.Replays.{groupLength, callsOf}

@@ -12,7 +12,7 @@ use Rattle.rules.specs.Refusals.{refusalNumber, settingsNumber, savedNumber}
 use Rattle.rules.specs.Images.{saveCheck, savedInto}
 use Rattle.rules.specs.declared.Settings.{Settings}
 use Rattle.rules.specs.declared.Refusal.{Refusal}
-use Rattle.claims.specs.Calls.{Call, Run, ruledBy, freshReport, runOf, acceptedSamples}
+use Rattle.causes.specs.Calls.{Call, Run, ruledBy, freshReport, runOf, acceptedSamples}
 use Rattle.replay.specs.declared.Ran.{Ran}
 use Rattle.replay.specs.declared.Replayed.{Replayed}
 

@@ -7,7 +7,7 @@ ghost use lib.Dec.{ltb};
 ghost use lib.ListN.{length};
 ghost use Rattle.rules.specs.Settings.{settingsAccepted};
 ghost use Rattle.rules.specs.Images.{imageLength};
-ghost use Rattle.claims.specs.FirstCause.{cause, first, settingsCauses};
+ghost use Rattle.causes.specs.FirstCause.{cause, first, settingsCauses};
 ghost use Rattle.replay.specs.Replays.{groupLength, ran, replayRefused, replayed, replayedInto};
 use image::save;
 use rules::Answer;

@@ -11,7 +11,7 @@ use Rattle.rules.specs.Forms.{sampleForm}
 use Rattle.rules.specs.Transcripts.{Line, ended, unended, onSampleNumbers}
 use Rattle.rules.specs.declared.Settings.{Settings}
 use Rattle.rules.specs.declared.Board.{Board}
-use Rattle.claims.specs.Alike.{Alike}
+use Rattle.causes.specs.Alike.{Alike}
 use Rattle.laws.proofs.Alike.{step-alike}
 use Rattle.program.specs.Saying.{Said, lineNumbers, said}
 use Rattle.program.specs.Responses.{handled, stops, andSaid}

@@ -9,8 +9,8 @@ ghost use Rattle.rules.specs.Counters.{counted, full};
 ghost use Rattle.rules.specs.Records.{each};
 ghost use Rattle.rules.specs.Reports.{packedAfter};
 ghost use Rattle.ridethrough.specs.Rules.{enters, hitAt, topAt, rulesAt};
+use numbers::within;
 use readings::reading::Reading;
-use readings::reading::within;
 use rules::Settings;
 
 // The counters, and the bits of those passed as one number.

@@ -4,8 +4,8 @@ ghost use mathlib.Core.Bool.{true};
 ghost use Rattle.rules.specs.Regions.{voltageRegion, frequencyRegion, rank, worse};
 ghost use Rattle.rules.specs.declared.Region.the-variants.{Continuous};
 ghost use Rattle.ridethrough.specs.Rules.{regionAt};
+use numbers::within;
 use readings::reading::Reading;
-use readings::reading::within;
 use rules::Region;
 
 // The region of a voltage (Category III).

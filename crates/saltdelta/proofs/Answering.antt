@@ -23,7 +23,7 @@ use Rattle.rules.specs.declared.Refusal.{Refusal}
 use Rattle.sheet.specs.Outcomes.{Gives}
 use Rattle.sheet.specs.declared.SheetOutcome.{SheetOutcome}
 use Rattle.saltdelta.specs.declared.SheetAnswer.{SheetAnswer}
-use Rattle.claims.specs.Calls.{freshReport}
+use Rattle.causes.specs.Calls.{freshReport}
 use Rattle.saltdelta.specs.Answers.{recordAfter, reportAfter, reportOr, stepNumber, sheetAnswer}
 
 -- a cause's number is small, and not 0

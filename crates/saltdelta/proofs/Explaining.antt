@@ -20,7 +20,7 @@ use Rattle.explain.specs.declared.StatusRule.{StatusRule}
 use Rattle.explain.specs.declared.WattsRule.{WattsRule}
 use Rattle.explain.specs.declared.ExplainedAnswer.{ExplainedAnswer}
 use Rattle.explain.specs.declared.ExplainedStep.{ExplainedStep}
-use Rattle.claims.specs.Calls.{Program, runOf}
+use Rattle.causes.specs.Calls.{Program, runOf}
 use Rattle.explain.proofs.Alone.{numbered}
 use Rattle.explain.proofs.Showing.{board-alone, shows-rules}
 use Rattle.saltdelta.proofs.Exported.{board-is}

@@ -13,7 +13,7 @@ use Rattle.rules.specs.declared.Answer.{Answer}
 use Rattle.rules.specs.declared.Settings.{Settings}
 use Rattle.rules.specs.declared.Stepped.{Stepped}
 use Rattle.rules.specs.declared.Refusal.the-variants.{Form, Range, Rise, Code, Frequency, Permission, Power, Sample, Buffer}
-use Rattle.claims.specs.Calls.{ruledBy}
+use Rattle.causes.specs.Calls.{ruledBy}
 use Rattle.claims.specs.Sound.{Sound}
 use Rattle.replay.specs.Replays.{replayNumber, replayed, replayedInto}
 use Rattle.replay.specs.Demanded.{Lends, ReplaysRightly}

@@ -19,8 +19,8 @@ use Rattle.rules.specs.declared.Report.{Report}
 use Rattle.rules.specs.declared.Answer.{Answer}
 use Rattle.rules.specs.declared.Settings.{Settings}
 use Rattle.rules.specs.declared.SettingsCheck.{SettingsCheck}
-use Rattle.claims.specs.FirstCause.{cause, first, settingsCauses, sampleCauses}
-use Rattle.claims.specs.SheetCauses.{FirstCauseAt, lineCause}
+use Rattle.causes.specs.FirstCause.{cause, first, settingsCauses, sampleCauses}
+use Rattle.causes.specs.SheetCauses.{FirstCauseAt, lineCause}
 use Rattle.basics.proofs.Refusals.{number-bounds, none-refused}
 use Rattle.laws.proofs.FirstCause.{refuses-rightly}
 use Rattle.laws.proofs.SheetCauses.{sheets-refused-rightly}

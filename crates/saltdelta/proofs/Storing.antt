@@ -13,7 +13,7 @@ use Rattle.rules.specs.declared.Board.{Board}
 use Rattle.rules.specs.declared.Report.{Report}
 use Rattle.rules.specs.declared.Answer.{Answer}
 use Rattle.rules.specs.declared.Settings.{Settings}
-use Rattle.claims.specs.Calls.{freshReport}
+use Rattle.causes.specs.Calls.{freshReport}
 use Rattle.replay.specs.Replays.{replayNumber, replayed, replayedInto}
 use Rattle.replay.proofs.Answering.{kept, given}
 use Rattle.saltdelta.specs.Answers.{recordAfter, reportAfter, reportOr, stepNumber, sheetAnswer, settingsAfter, replayAnswer, replayReport}

@@ -14,7 +14,7 @@ use Rattle.explain.specs.Explained.{historyStatusRule, historyWattsRule, explai
 use Rattle.explain.specs.declared.StatusRule.{StatusRule}
 use Rattle.explain.specs.declared.WattsRule.{WattsRule}
 use Rattle.explain.specs.declared.ExplainedAnswer.{ExplainedAnswer}
-use Rattle.claims.specs.Calls.{Call, freshReport, runOf, acceptedSamples}
+use Rattle.causes.specs.Calls.{Call, freshReport, runOf, acceptedSamples}
 use Rattle.claims.specs.TripAndReturn.{Next}
 use Rattle.saltdelta.specs.Exported.{exportedBoard}
 use Rattle.saltdelta.specs.declared.Explained.{Explained}

@@ -13,7 +13,7 @@ use Rattle.rules.specs.declared.Settings.{Settings}
 use Rattle.rules.specs.declared.Stepped.{Stepped}
 use Rattle.rules.specs.declared.Refusal.{Refusal}
 use Rattle.rules.specs.declared.Refusal.the-variants.{Form, Range, Rise, Code, Frequency, Permission, Power, Sample, Buffer}
-use Rattle.claims.specs.Calls.{Program}
+use Rattle.causes.specs.Calls.{Program}
 use Rattle.replay.specs.Replays.{unlessRefused}
 use Rattle.replay.specs.declared.Replayed.{Replayed}
 use Rattle.saltdelta.specs.Answers.{recordAfter, reportAfter, stepNumber, replayAnswer, replayReport}

@@ -16,8 +16,8 @@ use Rattle.rules.specs.Sheets.{readSheet, handedBack}
 use Rattle.rules.specs.declared.Board.{Board}
 use Rattle.rules.specs.declared.Report.{Report}
 use Rattle.rules.specs.declared.Settings.{Settings}
-use Rattle.claims.specs.FirstCause.{cause, first, settingsCauses, sampleCauses}
-use Rattle.claims.specs.SheetCauses.{FirstCauseAt, lineCause}
+use Rattle.causes.specs.FirstCause.{cause, first, settingsCauses, sampleCauses}
+use Rattle.causes.specs.SheetCauses.{FirstCauseAt, lineCause}
 use Rattle.carryover.specs.Carries.{ourForward, ourBack, CarryRefusedRightly}
 use Rattle.replay.specs.Replays.{replayedInto}
 use Rattle.saltdelta.specs.Answers.{recordAfter, reportAfter, stepNumber, sheetAnswer, settingsAfter, replayAnswer, replayReport}

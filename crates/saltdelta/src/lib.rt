@@ -5,7 +5,7 @@ ghost use Rattle.rules.specs.Refusals.{refusalNumber, savedNumber};
 ghost use Rattle.rules.specs.Records.{fresh};
 ghost use Rattle.rules.specs.Images.{saveCheck, savedInto};
 ghost use Rattle.rules.specs.Sheets.{readSheet};
-ghost use Rattle.claims.specs.Calls.{freshReport};
+ghost use Rattle.causes.specs.Calls.{freshReport};
 ghost use Rattle.carryover.specs.CarryOver.{carryNumber, forwardAnswer, backAnswer, forwardInto, backInto};
 ghost use Rattle.replay.specs.Replays.{replayed, replayedInto};
 ghost use Rattle.saltdelta.specs.Answers.{sheetAnswer, settingsAfter, recordAfter, reportAfter, stepNumber, replayAnswer, replayReport};

@@ -6,7 +6,7 @@ ghost use mathlib.Core.List.{[], _∷_};
 ghost use lib.Dec.{ltb};
 ghost use Rattle.rules.specs.Sensing.{lastCode, sensed};
 ghost use Rattle.rules.specs.Refusals.{sensedNumber};
-ghost use Rattle.claims.specs.FirstCause.{cause, first};
+ghost use Rattle.causes.specs.FirstCause.{cause, first};
 ghost use Rattle.sensing.specs.Tables.{IsTable};
 
 mod entries;

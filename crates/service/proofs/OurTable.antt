@@ -5,7 +5,7 @@ use mathlib.Core.List.{List}
 use Prim.Native.Nat.{ℕ}
 use native.Mathlib.Omega.{arith}
 use Rattle.rules.specs.Regions.{ourEquipment, equippedWith}
-use Rattle.claims.specs.Alike.{Alike}
+use Rattle.causes.specs.Alike.{Alike}
 use Rattle.sensing.specs.Tables.{IsTable}
 
 pub table-alike : (table : List ℕ) → IsTable table → Alike (equippedWith table) ourEquipment

@@ -27,7 +27,7 @@ use Rattle.rules.specs.declared.Region.{Region}
 use Rattle.rules.specs.declared.Refusal.{Refusal}
 use Rattle.rules.specs.declared.SettingsCheck.{SettingsCheck}
 use Rattle.rules.specs.declared.SampleCheck.{SampleCheck}
-use Rattle.laws.proofs.Trace.{kept-service}
+use Rattle.laws.proofs.Statuses.{kept-service}
 use Rattle.laws.proofs.Curves.{fits16}
 use Rattle.laws.proofs.Least.{inTurn, in-turn}
 use Rattle.laws.proofs.Events.{all-then}

@@ -7,11 +7,11 @@ ghost use Rattle.rules.specs.Service.{varsOf, firstLimits, leftBy, wattsOf};
 ghost use Rattle.readings.specs.Readings.{readingOf, Exportable};
 use droop::side_of;
 use droop::within_droop;
+use numbers::smaller;
 use power::volt_var;
 use power::volt_watt;
 use power::within_nameplate;
 use readings::reading::Reading;
-use readings::reading::smaller;
 use recovery::within_recovery;
 use rules::Settings;
 

@@ -5,7 +5,7 @@ ghost use Prim.Native.Nat.{_<_};
 ghost use Rattle.rules.specs.Tests.{all};
 ghost use Rattle.rules.specs.Settings.{sheetLines, inRow, rising, settingsCheck};
 ghost use Rattle.rules.specs.Refusals.{settingsNumber, lineOf};
-ghost use Rattle.claims.specs.FirstCause.{first, settingsCauses, causeLine};
+ghost use Rattle.causes.specs.FirstCause.{first, settingsCauses, causeLine};
 ghost use Rattle.settings.specs.Rows.{rowOf, rowAt};
 ghost use Rattle.settings.specs.Lines.{settingsLine, lineFound};
 

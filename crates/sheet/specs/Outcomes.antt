@@ -8,7 +8,7 @@ use Rattle.rules.specs.Settings.{sheetLines}
 use Rattle.rules.specs.Refusals.{settingsNumber, lineOf}
 use Rattle.rules.specs.Sheets.{SheetReading, readSheet}
 use Rattle.rules.specs.declared.SettingsCheck.{SettingsCheck}
-use Rattle.claims.specs.SheetCauses.{FirstCauseAt, lineCause}
+use Rattle.causes.specs.SheetCauses.{FirstCauseAt, lineCause}
 use Rattle.sheet.specs.declared.SheetOutcome.{SheetOutcome}
 
 pub record Gives (r : SheetOutcome) (reading : SheetReading) : Type 0 where

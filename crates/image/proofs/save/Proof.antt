@@ -14,7 +14,7 @@ use Rattle.rules.specs.Refusals.{savedNumber}
 use Rattle.rules.specs.declared.Board.{Board}
 use Rattle.rules.specs.declared.Saved.{Saved}
 use Rattle.rules.specs.declared.Refusal.the-variants.{Buffer}
-use Rattle.claims.specs.FirstCause.{cause, first}
+use Rattle.causes.specs.FirstCause.{cause, first}
 use Rattle.laws.proofs.FirstCause.{save-number}
 use Rattle.buffers.specs.Written.{written}
 use Rattle.laws.proofs.Images.{image-length}

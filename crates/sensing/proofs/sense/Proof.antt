@@ -10,7 +10,7 @@ use borrow.Author.Tests.{le-leb, lt-leb}
 use Rattle.rules.specs.Sensing.{sensed, lastCode}
 use Rattle.rules.specs.Refusals.{sensedNumber}
 use Rattle.rules.specs.declared.Sensed.{Sensed}
-use Rattle.claims.specs.FirstCause.{cause, first}
+use Rattle.causes.specs.FirstCause.{cause, first}
 use Rattle.laws.proofs.FirstCause.{sense-number}
 use Rattle.sensing.proofs.sense.Statement.{statement}
 use Rattle.sensing.proofs.sense.Tie as tie

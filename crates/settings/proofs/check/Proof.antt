@@ -11,7 +11,7 @@ use Rattle.settings.specs.Rows.{rowAt}
 use Rattle.settings.specs.Lines.{settingsLine, lineFound}
 use Rattle.settings.proofs.Rows.{row-here}
 use Rattle.settings.proofs.Steps.{from, line-more, line-end, line-passes, line-refuses}
-use Rattle.claims.specs.FirstCause.{first, settingsCauses, causeLine}
+use Rattle.causes.specs.FirstCause.{first, settingsCauses, causeLine}
 use Rattle.laws.proofs.FirstCause.{settings-number, settings-line}
 use borrow.Author.Needs.{needs}
 use Rattle.settings.proofs.check.Statement.{statement}

@@ -8,7 +8,7 @@ use Rattle.rules.specs.Regions.{ourEquipment, equippedWith}
 use Rattle.rules.specs.Samples.{Slice}
 use Rattle.rules.specs.declared.Board.{Board}
 use Rattle.rules.specs.declared.Settings.{Settings}
-use Rattle.claims.specs.FirstCause.{first, settingsCauses, sampleCauses}
+use Rattle.causes.specs.FirstCause.{first, settingsCauses, sampleCauses}
 use Rattle.service.proofs.OurTable.{table-alike}
 use Rattle.explain.specs.Numbers.{explainedNumber}
 use Rattle.explain.specs.Explained.{explainedStep}

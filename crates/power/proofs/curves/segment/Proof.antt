@@ -6,7 +6,7 @@ use native.Mathlib.Omega.{arith}
 use borrow.Author.Needs.{needs}
 use borrow.Author.Tests.{le-leb, lt-leb}
 use Rattle.rules.specs.Curves.{between, curve, curveFrom}
-use Rattle.power.proofs.Magnitude.{kept, power-kept}
+use Rattle.powerlaws.proofs.Magnitude.{kept, power-kept}
 use Rattle.power.proofs.Steps.{abs-between}
 use Rattle.power.proofs.curves.segment.Statement.{statement}
 use Rattle.power.proofs.curves.segment.Tie as tie

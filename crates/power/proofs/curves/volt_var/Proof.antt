@@ -10,10 +10,10 @@ use mir.Val.{toZ, ofZ}
 use borrow.Author.Needs.{needs}
 use Rattle.rules.specs.declared.Point.{Point}
 use Rattle.rules.specs.Curves.{curve}
-use Rattle.power.specs.Points.{Rises}
-use Rattle.power.proofs.Magnitude.{power-kept}
-use Rattle.power.proofs.CurveLaws.{curve-small, left-of, right-of}
-use Rattle.power.proofs.PointLists.{point-at, four, unmapped, powers-small, first-two}
+use Rattle.powerlaws.specs.Points.{Rises}
+use Rattle.powerlaws.proofs.Magnitude.{power-kept}
+use Rattle.powerlaws.proofs.CurveLaws.{curve-small, left-of, right-of}
+use Rattle.powerlaws.proofs.PointLists.{point-at, four, unmapped, powers-small, first-two}
 use Rattle.power.proofs.curves.volt_var.Statement.{statement}
 use Rattle.power.proofs.curves.volt_var.Tie as tie
 

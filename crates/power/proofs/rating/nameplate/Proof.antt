@@ -2,7 +2,7 @@
 -- Assumes nothing.
 use native.Mathlib.Omega.{arith}
 use borrow.Author.Needs.{needs}
-use Rattle.power.proofs.NameplateLaws.{used-small, square-read, nameplate-is}
+use Rattle.powerlaws.proofs.NameplateLaws.{used-small, square-read, nameplate-is}
 use Rattle.power.proofs.rating.nameplate.Statement.{statement}
 use Rattle.power.proofs.rating.nameplate.Tie as tie
 

@@ -8,7 +8,7 @@ use lib.IntN.{ℤ, pos, natAbs, _*ℤ_}
 use mir.Syntax.{w32}
 use mir.Val.{SFits, toZ, ofZ}
 use mir.Facts.{toZ-ofZ}
-use Rattle.power.proofs.Magnitude.{fits, kept, square-is}
+use Rattle.powerlaws.proofs.Magnitude.{fits, kept, square-is}
 use Rattle.power.proofs.rating.square.Statement.{statement}
 use Rattle.power.proofs.rating.square.Tie as tie
 

@@ -4,8 +4,8 @@ use mathlib.Core.Path.{_∙_}
 use native.Mathlib.Nat.{mul-le-mul}
 use native.Mathlib.Omega.{arith}
 use borrow.Author.Needs.{needs}
-use Rattle.power.proofs.Magnitude.{kept}
-use Rattle.power.proofs.NameplateLaws.{used-small, square-read, power-fits, power-over}
+use Rattle.powerlaws.proofs.Magnitude.{kept}
+use Rattle.powerlaws.proofs.NameplateLaws.{used-small, square-read, power-fits, power-over}
 use Rattle.power.proofs.rating.within_nameplate.Statement.{statement}
 use Rattle.power.proofs.rating.within_nameplate.Tie as tie
 

@@ -11,7 +11,7 @@ use Rattle.rules.specs.Records.{stepOf}
 use Rattle.rules.specs.declared.Board.{Board}
 use Rattle.rules.specs.declared.Settings.{Settings}
 use Rattle.rules.specs.declared.Stepped.{Stepped}
-use Rattle.claims.specs.FirstCause.{first, settingsCauses, sampleCauses}
+use Rattle.causes.specs.FirstCause.{first, settingsCauses, sampleCauses}
 use Rattle.laws.proofs.Alike.{step-alike}
 use Rattle.laws.proofs.FirstCause.{step-number}
 use Rattle.service.proofs.Stepping.{settings-refused}

@@ -6,7 +6,7 @@ use denote.Ref.{now}
 use Rattle.rules.specs.Samples.{samplePassed, sampleAccepted}
 use Rattle.rules.specs.Regions.{equippedWith}
 use Rattle.laws.proofs.Accepted.{sample-right}
-use Rattle.laws.proofs.Demand2.{accepted-step}
+use Rattle.laws.proofs.Steps.{accepted-step}
 use Rattle.service.proofs.Stepping.{sample-refused}
 use borrow.Author.Needs.{needs}
 use Rattle.service.proofs.step.step_accepted.Statement.{statement}

@@ -1,0 +1,4 @@
+pub mod Calls
+pub mod FirstCause
+pub mod SheetCauses
+pub mod Alike
