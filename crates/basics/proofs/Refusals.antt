@@ -1,4 +1,4 @@
--- Every refusal has a number of one digit, and it is not 0; so a check whose number is 0 has accepted.
+-- Every refusal has a number of one or two digits, and it is not 0; so a check whose number is 0 has accepted.
 -- Assumes nothing.
 use mathlib.Core.Path.{_≡_, refl}
 use Prim.Native.Nat.{_<_}
@@ -9,7 +9,7 @@ use Rattle.rules.specs.declared.Refusal.{Refusal}
 use Rattle.rules.specs.declared.SettingsCheck.{SettingsCheck}
 use Rattle.rules.specs.declared.Refusal.the-variants.{Form, Range, Rise, Code, Frequency, Permission, Power, Sample, Buffer}
 
-pub number-bounds : (cause : Refusal) → (0 < refusalNumber cause) × (refusalNumber cause < 10)
+pub number-bounds : (cause : Refusal) → (0 < refusalNumber cause) × (refusalNumber cause < 100)
 number-bounds Form = (lit< tt, lit< tt)
 number-bounds Range = (lit< tt, lit< tt)
 number-bounds Rise = (lit< tt, lit< tt)

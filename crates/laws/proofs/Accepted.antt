@@ -7,6 +7,7 @@ use Prim.Native.Nat.{ℕ, zero, suc, _≤_, _<_}
 use native.Mathlib.Nat.{not-suc-le-zero, le-of-suc-le-suc}
 use native.Mathlib.Omega.{arith}
 use lib.IntN.{pos, natAbs}
+use lib.Dec.{lit≤}
 use lib.ListN.{length, getD}
 use borrow.Author.Tests.{leb-true, eqb-true}
 use Rattle.rules.specs.Tests.{all}
@@ -78,10 +79,25 @@ one-pair a b c d x y l = in-row a b c d x y (both (inRow (row a b c d) (pair (po
 abbrev pub LimitRow : Settings → ℕ → Type 0
 LimitRow st i = InRow (rowAt i) (limitAt st i .level) (limitAt st i .clearing)
 
+-- what the undervoltage limits keep in any row of theirs: the levels up to 8800, and the least and the greatest clearing time
+abbrev pub undervoltageRow : Row
+undervoltageRow = row 0 8800 16 5000
+
+-- a pair of a row lies in a wider one
+wider : {r q : Row} {x y : ℕ} → natAbs (q .firstLow) ≤ natAbs (r .firstLow) → natAbs (r .firstHigh) ≤ natAbs (q .firstHigh)
+    → natAbs (q .secondLow) ≤ natAbs (r .secondLow) → natAbs (r .secondHigh) ≤ natAbs (q .secondHigh) → InRow r x y → InRow q x y
+wider a b c d i =
+    record {
+      first-low = omega (arith, i .first-low);
+      first-high = omega (arith, i .first-high);
+      second-low = omega (arith, i .second-low);
+      second-high = omega (arith, i .second-high);
+    }
+
 -- the lines of one pair of an accepted sheet
 pub record Rows (st : Settings) : Type 0 where
-  pub uv1 : LimitRow st 0
-  pub uv2 : LimitRow st 1
+  pub uv1 : InRow undervoltageRow (limitAt st 0 .level) (limitAt st 0 .clearing)
+  pub uv2 : InRow undervoltageRow (limitAt st 1 .level) (limitAt st 1 .clearing)
   pub ov1 : LimitRow st 2
   pub ov2 : LimitRow st 3
   pub uf1 : LimitRow st 4
@@ -102,8 +118,8 @@ pub sheet-rows : (st : Settings) → settingsAccepted st ≡ true → Rows st
 unfolding rows linesOf
 sheet-rows st e =
     record {
-      uv1 = one-pair _ _ _ _ _ _ (sheet-line st e 0 (omega arith));
-      uv2 = one-pair _ _ _ _ _ _ (sheet-line st e 1 (omega arith));
+      uv1 = wider (lit≤ tt) (lit≤ tt) (lit≤ tt) (lit≤ tt) (one-pair _ _ _ _ _ _ (sheet-line st e 0 (omega arith)));
+      uv2 = wider (lit≤ tt) (lit≤ tt) (lit≤ tt) (lit≤ tt) (one-pair _ _ _ _ _ _ (sheet-line st e 1 (omega arith)));
       ov1 = one-pair _ _ _ _ _ _ (sheet-line st e 2 (omega arith));
       ov2 = one-pair _ _ _ _ _ _ (sheet-line st e 3 (omega arith));
       uf1 = one-pair _ _ _ _ _ _ (sheet-line st e 4 (omega arith));

@@ -1,10 +1,12 @@
 -- The exported functions, in the words of their contracts, as a board program and as a replay: of these demands 2 and 3 are claimed, and of the first
 -- how soon two ramp counts come apart.
 -- Assumes nothing.
+use mathlib.Core.Bool.{cond}
 use mathlib.Core.List.{List, [], _∷_}
-use Prim.Native.Nat.{ℕ, _-_}
-use lib.ListN.{getD}
+use Prim.Native.Nat.{ℕ}
+use lib.Dec.{eqb}
 use Rattle.rules.specs.Samples.{Slice}
+use Rattle.rules.specs.Refusals.{refusalNumber}
 use Rattle.rules.specs.Records.{fresh}
 use Rattle.rules.specs.declared.Board.{Board}
 use Rattle.rules.specs.declared.Report.{Report}
@@ -18,9 +20,17 @@ use Rattle.replay.specs.Replays.{unlessRefused}
 use Rattle.replay.specs.declared.Replayed.{Replayed}
 use Rattle.saltdelta.specs.Answers.{recordAfter, reportAfter, stepNumber, replayAnswer, replayReport}
 
--- spec 11.1: the causes in the order of their numbers, from 1
+-- spec 11.1: all causes
+abbrev pub allCauses : List Refusal
+allCauses = Form ∷ Range ∷ Rise ∷ Code ∷ Frequency ∷ Permission ∷ Power ∷ Sample ∷ Buffer ∷ []
+
+-- of these causes the one with a number; a number that none has stands for none of them
+abbrev pub causeAmong : List Refusal → ℕ → Refusal
+causeAmong [] n = Form
+causeAmong (c ∷ cs) n = cond (eqb (refusalNumber c) n) c (causeAmong cs n)
+
 abbrev pub causeOf : ℕ → Refusal
-causeOf n = getD (Form ∷ Range ∷ Rise ∷ Code ∷ Frequency ∷ Permission ∷ Power ∷ Sample ∷ Buffer ∷ []) (n - 1) Form
+causeOf n = causeAmong allCauses n
 
 -- what a number and a report say: 0 the report, any other number its cause
 abbrev pub answerBy : ℕ → Report → Answer

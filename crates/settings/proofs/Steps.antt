@@ -3,21 +3,21 @@
 use mathlib.Core.Path.{_≡_, refl}
 use mathlib.Core.Bool.{Bool, true, false, cond, _&&_}
 use mathlib.Core.List.{List, [], _∷_, map}
-use Prim.Native.Nat.{ℕ, suc, _+_, _<_, _≤_}
+use Prim.Native.Nat.{ℕ, suc, _+_, _-_, _<_, _≤_}
 use native.Mathlib.Numerals.{add-one}
 use native.Mathlib.Omega.{arith}
 use lib.IntN.{pos}
-use lib.ListN.{length, getD, drop, length-drop, drop-of-length-le}
+use lib.ListN.{length, getD, take, drop, length-drop, drop-of-length-le}
 use lib.Seq.{drop-cons}
 use lib.Signed.{ltZ}
 use Rattle.rules.specs.Tests.{all}
-use Rattle.rules.specs.Settings.{sheetLines, Pair, pair, Row, row, rows, inRow, rising, lineCheck, checkFrom, linesOf}
+use Rattle.rules.specs.Settings.{sheetLines, Pair, pair, Row, row, rows, inRow, rising, lineCheck, checkFrom, linesOf, settingsCheck}
 use Rattle.rules.specs.declared.Settings.{Settings}
 use Rattle.rules.specs.declared.Refusal.{Refusal}
 use Rattle.rules.specs.declared.Refusal.the-variants.{Range, Rise}
 use Rattle.rules.specs.declared.SettingsCheck.{SettingsCheck}
 use Rattle.settings.specs.Rows.{rowAt}
-use Rattle.settings.specs.Lines.{settingsLine, lineFound}
+use Rattle.settings.specs.Lines.{settingsLine, lineFound, firstLinesCheck}
 
 abbrev at : List Pair → ℕ → Pair
 at l k = getD l k (pair (pos 0) (pos 0))
@@ -58,20 +58,31 @@ lines-long : (s : Settings) → length (linesOf s) ≡ sheetLines
 unfolding linesOf
 lines-long s = refl
 
--- what the lines from line i on find, i counted from 0
-abbrev pub from : Settings → ℕ → SettingsCheck
-from s i = checkFrom (i + 1) (drop i rows) (drop i (linesOf s))
+-- what the lines from line i on find, of the first n lines, i counted from 0
+abbrev pub from : ℕ → Settings → ℕ → SettingsCheck
+from n s i = checkFrom (i + 1) (take (n - i) (drop i rows)) (drop i (linesOf s))
 
-pub line-more : (s : Settings) (i : ℕ) → i < sheetLines → from s i ≡ lineCheck (rowAt i) (settingsLine s i) (from s (i + 1)) (λ cause. SettingsCheck.Refused cause (i + 1))
+pub from-first : (n : ℕ) (s : Settings) → firstLinesCheck n s ≡ from n s 0
+unfolding firstLinesCheck
+from-first n s = let whole : n - 0 ≡ n = omega arith in rw whole
+
+pub line-more : (n : ℕ) (s : Settings) (i : ℕ) → n ≤ sheetLines → i < n
+    → from n s i ≡ lineCheck (rowAt i) (settingsLine s i) (from n s (i + 1)) (λ cause. SettingsCheck.Refused cause (i + 1))
 unfolding checkFrom
-line-more s i h =
+line-more n s i top h =
     let r : i < length rows = omega (arith, rows-long) in
     let l : i < length (linesOf s) = omega (arith, lines-long s) in
-    rw (drop-cons rows i (row 0 0 0 0), drop-cons (linesOf s) i [], add-one (i + 1), add-one i)
+    let left : n - i ≡ suc (n - suc i) = omega arith in
+    rw (left, drop-cons rows i (row 0 0 0 0), drop-cons (linesOf s) i [], add-one (i + 1), add-one i)
 
-pub line-end : (s : Settings) (i : ℕ) → sheetLines ≤ i → from s i ≡ SettingsCheck.Accepted
+pub line-end : (n : ℕ) (s : Settings) (i : ℕ) → n ≤ i → from n s i ≡ SettingsCheck.Accepted
 unfolding checkFrom
-line-end s i h = rw (drop-of-length-le rows {i = i} (omega (arith, rows-long)))
+line-end n s i h = let none : n - i ≡ 0 = omega arith in rw none
+
+-- the first thirteen are all
+pub all-lines : (s : Settings) → firstLinesCheck sheetLines s ≡ settingsCheck s
+unfolding firstLinesCheck settingsCheck rows
+all-lines s = refl
 
 -- ---- a line's own check, and what it says of the lines after it
 

@@ -5,9 +5,9 @@ use mathlib.Core.List.{List, []}
 use Prim.Native.Nat.{ℕ, _+_}
 use lib.Dec.{eqb}
 use lib.IntN.{pos}
-use lib.ListN.{getD}
+use lib.ListN.{getD, take}
 use Rattle.rules.specs.Settings as rules
-use Rattle.rules.specs.Settings.{pair, linesOf, lineCheck}
+use Rattle.rules.specs.Settings.{pair, rows, linesOf, lineCheck, checkFrom}
 use Rattle.rules.specs.declared.Settings.{Settings}
 use Rattle.rules.specs.declared.SettingsCheck.{SettingsCheck}
 use Rattle.settings.specs.declared.lines.Pair.{Pair}
@@ -28,3 +28,7 @@ pairsIn i = cond (eqb i 11) 4 (cond (eqb i 12) 2 1)
 -- what checking line i alone finds
 abbrev pub lineFound : rules.Row → List rules.Pair → ℕ → SettingsCheck
 lineFound r ps i = lineCheck r ps SettingsCheck.Accepted (λ cause. SettingsCheck.Refused cause (i + 1))
+
+-- spec 4.3: what the first n lines find, in sheet order
+unfoldable pub firstLinesCheck : ℕ → Settings → SettingsCheck
+firstLinesCheck n st = checkFrom 1 (take n rows) (linesOf st)

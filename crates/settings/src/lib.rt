@@ -1,13 +1,13 @@
 // Whether settings keep to the ranges and the strict rise of spec 3.5 and 3.6.
 ghost use mathlib.Core.Path.{_≡_};
 ghost use mathlib.Core.List.{map};
-ghost use Prim.Native.Nat.{_<_};
+ghost use Prim.Native.Nat.{_<_, _≤_};
 ghost use Rattle.rules.specs.Tests.{all};
 ghost use Rattle.rules.specs.Settings.{sheetLines, inRow, rising, settingsCheck};
 ghost use Rattle.rules.specs.Refusals.{settingsNumber, lineOf};
 ghost use Rattle.causes.specs.FirstCause.{first, settingsCauses, causeLine};
 ghost use Rattle.settings.specs.Rows.{rowOf, rowAt};
-ghost use Rattle.settings.specs.Lines.{settingsLine, lineFound};
+ghost use Rattle.settings.specs.Lines.{settingsLine, lineFound, firstLinesCheck};
 
 mod lines;
 mod ranges;
@@ -84,14 +84,14 @@ pub fn check_line(s: Settings, line: usize) -> SettingsCheck
     line_check(row, s, line)
 }
 
-// Refusals 2 and 3: the first found in sheet order (spec 4.3).
-pub fn check(s: Settings) -> SettingsCheck
-    ensures { λ r. ⌜ r ≡ settingsCheck s ⌝ }
-    ensures { λ r. ⌜ (settingsNumber r ≡ first (settingsCauses s)) × (lineOf r ≡ causeLine 1 (settingsCauses s)) ⌝ }
+// Refusals 2 and 3 of the first so many lines: the first found in sheet order (spec 4.3).
+pub fn check_first(s: Settings, lines: usize) -> SettingsCheck
+    requires { ⌜ lines ≤ sheetLines ⌝ }
+    ensures { λ r. ⌜ r ≡ firstLinesCheck lines s ⌝ }
 {
     let rows = row_table();
     let mut line = 0;
-    while line < SHEET_LINES {
+    while line < lines {
         let row = rows[line];
         let found = line_check(row, s, line);
         line += 1;
@@ -103,4 +103,12 @@ pub fn check(s: Settings) -> SettingsCheck
         }
     }
     SettingsCheck::Accepted
+}
+
+// Refusals 2 and 3 of all lines.
+pub fn check(s: Settings) -> SettingsCheck
+    ensures { λ r. ⌜ r ≡ settingsCheck s ⌝ }
+    ensures { λ r. ⌜ (settingsNumber r ≡ first (settingsCauses s)) × (lineOf r ≡ causeLine 1 (settingsCauses s)) ⌝ }
+{
+    check_first(s, SHEET_LINES)
 }

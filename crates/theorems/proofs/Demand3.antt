@@ -2,6 +2,7 @@
 -- Assumes nothing.
 use mathlib.Core.Path.{_≡_, refl, sym, ap, _∙_, subst}
 use mathlib.Core.Bool.{Bool, true, false, cond}
+use mathlib.Core.Logic.{_↔_}
 use mathlib.Core.List.{List, [], _∷_, map}
 use Prim.Native.Nat.{ℕ, _^_, _≤_, _<_, zero-le}
 use native.Mathlib.Omega.{arith}
@@ -149,18 +150,18 @@ module _ (e : Equipment) (sound : Sound e) (st : Settings) (ok : settingsAccepte
       ap (λ (r : Run). take imageLength (savedInto (r .board) buffer)) (run-is e st ok cs u)
       ∙ saved-image (recordOf e st (acceptedSamples cs)) (nine-counters e st (acceptedSamples cs)) buffer room
 
+  -- the images of two histories are equal exactly when no common run tells these apart
+  pub images-told : (h g : History) → AllAccepted h → AllAccepted g → (image (recordOf e st h) ≡ image (recordOf e st g)) ↔ Agree e st h g
+  images-told h g ha ga = (
+    (λ p. records-agree e st h g (image-inj _ _ (record-fits h) (record-fits g) p)),
+    (λ f. ap image (records-equal h g ha ga f)),
+  )
+
   two-histories : TwoHistoriesBy savedInto (historyReport e) (ruledBy e) st
   two-histories ps qs up uq a b ra rb =
-      let hp = acceptedSamples ps in
-      let hq = acceptedSamples qs in
-      let accepted-p = samples-accepted ps [] tt in
-      let accepted-q = samples-accepted qs [] tt in
+      let told = images-told (acceptedSamples ps) (acceptedSamples qs) (samples-accepted ps [] tt) (samples-accepted qs [] tt) in
       let p-is = saved-is ps up a ra in
-      let q-is = saved-is qs uq b rb in
-      let told = image-inj _ _ (record-fits hp) (record-fits hq) in (
-        (λ p. records-agree e st hp hq (told (sym p-is ∙ p ∙ q-is))),
-        (λ f. p-is ∙ ap image (records-equal hp hq accepted-p accepted-q f) ∙ sym q-is),
-      )
+      let q-is = saved-is qs uq b rb in ((λ p. told .0 (sym p-is ∙ p ∙ q-is)), (λ f. p-is ∙ told .1 f ∙ sym q-is))
 
 pub demand3 : (e : Equipment) → Sound e → Demand3 e (ruledBy e)
 demand3 e sound st ok = two-histories e sound st ok

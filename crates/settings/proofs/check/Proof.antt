@@ -1,106 +1,22 @@
--- `settings::check` meets its contract: what the lines from `line` on find is what the sheet's lines find.
+-- `settings::check` meets its contract: the first thirteen lines are all, and so the number and the line are those of the first cause.
 -- Assumes nothing.
-use mathlib.Core.Path.{_≡_, refl, sym, ap, _∙_}
-use Prim.Native.Nat.{_+_, _-_, _≤_}
-use native.Mathlib.Omega.{arith}
-use Rattle.rules.specs.Settings.{sheetLines, settingsCheck}
+use mathlib.Core.Path.{_≡_, ap, _∙_}
+use Rattle.rules.specs.Settings.{settingsCheck}
 use Rattle.rules.specs.Refusals.{settingsNumber, lineOf}
-use Rattle.rules.specs.declared.Settings.{Settings}
-use Rattle.rules.specs.declared.SettingsCheck.{SettingsCheck}
-use Rattle.settings.specs.Rows.{rowAt}
-use Rattle.settings.specs.Lines.{settingsLine, lineFound}
-use Rattle.settings.proofs.Rows.{row-here}
-use Rattle.settings.proofs.Steps.{from, line-more, line-end, line-passes, line-refuses}
-use Rattle.causes.specs.FirstCause.{first, settingsCauses, causeLine}
 use Rattle.laws.proofs.FirstCause.{settings-number, settings-line}
+use Rattle.settings.proofs.Steps.{all-lines}
 use borrow.Author.Needs.{needs}
 use Rattle.settings.proofs.check.Statement.{statement}
 use Rattle.settings.proofs.check.Tie as tie
 
--- the check, and so its number and its line
-promised : (s : Settings) (r : SettingsCheck) → r ≡ settingsCheck s
-    → (r ≡ settingsCheck s) × ((settingsNumber r ≡ first (settingsCauses s)) × (lineOf r ≡ causeLine 1 (settingsCauses s)))
-promised s r e = (e, (ap settingsNumber e ∙ settings-number s, ap lineOf e ∙ settings-line s))
+check-first-requires : tie.Need-check-first-requires
+check-first-requires c κs = search needs
 
-abbrev Inv-loop : tie.InvT-loop
-Inv-loop s rows line₀ line = (line ≤ sheetLines) × (settingsCheck s ≡ from s line)
-
-abbrev μ-loop : tie.MeasureT-loop
-μ-loop s rows line₀ line = sheetLines - line
-
-row-table-requires : tie.Need-row-table-requires Inv-loop μ-loop
-row-table-requires c κs = search needs
-
-loop-holds : tie.Need-loop-holds Inv-loop μ-loop
-unfolding settingsCheck
-loop-holds c = (omega arith, refl)
-
-mul-row : tie.Need-mul-row Inv-loop μ-loop
-mul-row c = search needs
-
-array-copy-out-row : tie.Need-array-copy-out-row Inv-loop μ-loop
-array-copy-out-row c = search needs
-
-line-check-requires : tie.Need-line-check-requires Inv-loop μ-loop
-line-check-requires c κs = search needs
-
-add-line : tie.Need-add-line Inv-loop μ-loop
-add-line c = search needs
-
-enum-told : tie.Need-enum-told Inv-loop μ-loop
-enum-told c = search needs
-
-loop-less : tie.Need-loop-less Inv-loop μ-loop
-loop-less c = search needs
-
-loop-again : tie.Need-loop-again Inv-loop μ-loop
-loop-again c =
-    let at = c .before .before .before .before .before in
-    let s = at .before .before .args .s in
-    let i = at .loop .line in
-    let row = row-here (at .before .row-table .result) (at .before .row-table .ensures) i in
-    let found : lineFound (rowAt i) (settingsLine s i) i ≡ SettingsCheck.Accepted = rw (← row) (sym (c .before .before .line-check .ensures) ∙ c .enum-told .given .1) in (
-      omega arith,
-      at .loop .inv .1 ∙ line-more s i (omega arith)
-          ∙ line-passes (rowAt i) (settingsLine s i) i (from s (i + 1)) (λ cause. SettingsCheck.Refused cause (i + 1)) found,
-    )
-
-enum-told-2 : tie.Need-enum-told-2 Inv-loop μ-loop
-enum-told-2 c = search needs
-
-returns : tie.Need-returns Inv-loop μ-loop
+returns : tie.Need-returns
 returns c =
-    let at = c .before .before .before .before .before in
-    let s = at .before .before .args .s in
-    let i = at .loop .line in
-    let row = row-here (at .before .row-table .result) (at .before .row-table .ensures) i in
-    let told = c .enum-told2 .given in
-    let cause = told .0 .0 in
-    let n = told .0 .1 .0 in
-    let found : lineFound (rowAt i) (settingsLine s i) i ≡ SettingsCheck.Refused cause n = rw (← row) (sym (c .before .before .line-check .ensures) ∙ told .1) in
-    let refused = line-refuses (rowAt i) (settingsLine s i) i (from s (i + 1)) (λ why. SettingsCheck.Refused why (i + 1)) cause n found in
-    promised s _ (told .1 ∙ ap (SettingsCheck.Refused cause) (refused .1) ∙ sym (at .loop .inv .1 ∙ line-more s i (omega arith) ∙ refused .0))
-
-returns-2 : tie.Need-returns-2 Inv-loop μ-loop
-returns-2 c =
-    let s = c .before .before .before .args .s in
-    promised s _ (sym (c .before .loop .inv .1 ∙ line-end s (c .before .loop .line) (omega arith)))
+    let s = c .before .args .s in
+    let all : c .check-first .result ≡ settingsCheck s = c .check-first .ensures ∙ all-lines s in
+    (all, (ap settingsNumber all ∙ settings-number s, ap lineOf all ∙ settings-line s))
 
 pub check-spec : {M : Type 1} → statement M
-check-spec =
-    tie.close
-    (tie.spec
-    Inv-loop
-    μ-loop
-    row-table-requires
-    loop-holds
-    mul-row
-    array-copy-out-row
-    line-check-requires
-    add-line
-    enum-told
-    loop-less
-    loop-again
-    enum-told-2
-    returns
-    returns-2)
+check-spec = tie.close (tie.spec check-first-requires returns)
