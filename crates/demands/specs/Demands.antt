@@ -536,11 +536,11 @@ ExportedRules = (st : Settings) → settingsAccepted st ≡ true → ExplainsInN
 --     tells them apart; of whole samples this is said of the replay's own reports too. The bytes behind the image
 --     stay.
 abbrev pub OurReplay : Type 0
-OurReplay = ReplaysRightly replayed replayedInto
+OurReplay = ReplaysRightly ourEquipment replayed replayedInto
 
 -- The same of `saltdelta_replay`, whatever stands in the lent report.
 abbrev pub ExportedReplay : Type 0
-ExportedReplay = (before : Report) → ReplaysRightly (exportedReplay before) replayedInto
+ExportedReplay = (before : Report) → ReplaysRightly ourEquipment (exportedReplay before) replayedInto
 
 -- And there is no choice in the numbers of a sample: `GroupsBySeven` in replay/specs/Demanded.antt.
 abbrev pub ReplayGroups : Type 0

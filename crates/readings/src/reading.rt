@@ -4,6 +4,7 @@ ghost use mathlib.Core.Bool.{true};
 ghost use mathlib.Core.List.{[], _∷_};
 ghost use Prim.Native.Nat.{min, max};
 ghost use lib.Dec.{leb};
+ghost use lib.ListN.{length};
 ghost use Rattle.rules.specs.Tests.{all, within};
 ghost use Rattle.rules.specs.Sensing.{lastCode};
 ghost use Rattle.rules.specs.Samples.{sampleCheck, sampleAccepted};
@@ -90,8 +91,8 @@ fn larger(a: u32, b: u32) -> u32
 }
 
 // The reading of an accepted slice, by a lent sensing table.
-pub fn read(table: &[u16; 4096], x: &[u32]) -> Reading
-    requires { ⌜ sampleAccepted (now x) ≡ true ⌝ }
+pub fn read(table: &[u16], x: &[u32]) -> Reading
+    requires { ⌜ (length (now table) ≡ 4096) × (sampleAccepted (now x) ≡ true) ⌝ }
     ensures { λ r. ⌜ r ≡ readingOf (equippedWith (now (table .entry))) (now (x .entry)) ⌝ }
 {
     let first = x[0];

@@ -3,6 +3,7 @@ ghost use mathlib.Core.Path.{_≡_};
 ghost use mathlib.Core.Bool.{Bool, true, cond};
 ghost use mathlib.Core.List.{List, [], _∷_, _++_};
 ghost use Prim.Native.Nat.{_*_, _/_, _≤_, min};
+ghost use lib.ListN.{length};
 ghost use Rattle.rules.specs.Tests.{any};
 ghost use Rattle.rules.specs.Settings.{settingsAccepted};
 ghost use Rattle.rules.specs.Samples.{Slice, Equipment};
@@ -221,8 +222,8 @@ fn advance(b: Board, s: Settings, r: Reading) -> Stepped
 }
 
 // The step under settings that are accepted and with a sensing table lent: only the sample is checked.
-pub fn step_accepted(table: &[u16; 4096], b: Board, s: Settings, x: &[u32]) -> Stepped
-    requires { ⌜ settingsAccepted s ≡ true ⌝ }
+pub fn step_accepted(table: &[u16], b: Board, s: Settings, x: &[u32]) -> Stepped
+    requires { ⌜ (length (now table) ≡ 4096) × (settingsAccepted s ≡ true) ⌝ }
     ensures { λ t. ⌜ t ≡ stepOf (equippedWith (now (table .entry))) b s (now (x .entry)) ⌝ }
 {
     match check(x) {
@@ -234,9 +235,11 @@ pub fn step_accepted(table: &[u16; 4096], b: Board, s: Settings, x: &[u32]) -> S
     }
 }
 
-// The step: settings are checked for 2 and 3 in sheet order, then the slice for 8, 4, 5, 6, 7; a refused call changes nothing.
-pub fn step(b: Board, s: Settings, x: &[u32]) -> Stepped
-    ensures { λ t. ⌜ t ≡ stepOf ourEquipment b s (now (x .entry)) ⌝ }
+// The step with a sensing table lent: settings are checked for 2 and 3 in sheet order, then the slice for 8, 4, 5, 6, 7; a refused call changes
+// nothing.
+pub fn step_by(table: &[u16], b: Board, s: Settings, x: &[u32]) -> Stepped
+    requires { ⌜ length (now table) ≡ 4096 ⌝ }
+    ensures { λ t. ⌜ t ≡ stepOf (equippedWith (now (table .entry))) b s (now (x .entry)) ⌝ }
     ensures { λ t. ⌜ answerNumber (t .answer) ≡ first (settingsCauses s ++ sampleCauses (now (x .entry))) ⌝ }
 {
     match settings::check(s) {
@@ -244,9 +247,15 @@ pub fn step(b: Board, s: Settings, x: &[u32]) -> Stepped
             board: b,
             answer: Answer::Refused(cause),
         },
-        SettingsCheck::Accepted => {
-            let t = table();
-            step_accepted(&t, b, s, x)
-        }
+        SettingsCheck::Accepted => step_accepted(table, b, s, x),
     }
+}
+
+// The step, with our table.
+pub fn step(b: Board, s: Settings, x: &[u32]) -> Stepped
+    ensures { λ t. ⌜ t ≡ stepOf ourEquipment b s (now (x .entry)) ⌝ }
+    ensures { λ t. ⌜ answerNumber (t .answer) ≡ first (settingsCauses s ++ sampleCauses (now (x .entry))) ⌝ }
+{
+    let t = table();
+    step_by(&t, b, s, x)
 }
