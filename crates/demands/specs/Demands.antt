@@ -344,7 +344,7 @@ OurRecovery = (st : Settings) → settingsAccepted st ≡ true → RestoresPower
 -- where neither voltage's region is a cessation. (Counters run there as anywhere: what demand 2's `keeps` and `trips`
 -- count does not depend on the region.)
 abbrev pub OurRideThroughEnds : Type 0
-OurRideThroughEnds = (st : Settings) → settingsAccepted st ≡ true → CeasesBeyondRideThrough ourEquipment (historyReport ourEquipment st)
+OurRideThroughEnds = (st : Settings) → settingsAccepted st ≡ true → CeasesBeyondRideThrough ourEquipment st (historyReport ourEquipment st)
 
 -- Frequency droop, for the network owners: `Droops` in claims/specs/Droop.antt, of the reports of histories too.
 --   - In service above 60036 mHz a board is in an event on side 1, below 59964 on side 2, the step of its return
@@ -464,7 +464,7 @@ AnyRecovery = (e : Equipment) → Sound e → (st : Settings) → settingsAccept
 
 -- no power far outside
 abbrev pub AnyRideThroughEnds : Type 0
-AnyRideThroughEnds = (e : Equipment) → Sound e → (st : Settings) → settingsAccepted st ≡ true → CeasesBeyondRideThrough e (historyReport e st)
+AnyRideThroughEnds = (e : Equipment) → Sound e → (st : Settings) → settingsAccepted st ≡ true → CeasesBeyondRideThrough e st (historyReport e st)
 
 -- droop, for any sensing table and any voltage regions; nothing is asked of them
 abbrev pub AnyDroop : Type 0

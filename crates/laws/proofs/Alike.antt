@@ -47,9 +47,9 @@ module _ (e f : Equipment) (a : Alike e f) (x : Slice) (r : SampleRight x) where
   pub mean-alike : mean e x ≡ mean f x
   mean-alike = rw (phase0, phase1, phase2)
 
-  pub region-alike : regionOf e x ≡ regionOf f x
+  pub region-alike : (st : Settings) → regionOf e st x ≡ regionOf f st x
   unfolding regionOf
-  region-alike = rw (lowest-alike, highest-alike, a .region (lowest f x), a .region (highest f x))
+  region-alike st = rw (lowest-alike, highest-alike, a .region (lowest f x), a .region (highest f x))
 
   -- ---- the nine rules
 
@@ -88,7 +88,7 @@ module _ (e f : Equipment) (a : Alike e f) (x : Slice) (r : SampleRight x) where
     settled-alike : (counters : List ℕ) (on : Bool) (ramp recovery held : ℕ)
         → settled e st x counters on ramp recovery held ≡ settled f st x counters on ramp recovery held
     unfolding settled
-    settled-alike counters on ramp recovery held = rw (region-alike, watts-alike, vars-alike)
+    settled-alike counters on ramp recovery held = rw (region-alike st, watts-alike, vars-alike)
 
     read-alike : (b : Board) → readAs e st b ≡ readAs f st b
     unfolding readAs
@@ -100,7 +100,7 @@ module _ (e f : Equipment) (a : Alike e f) (x : Slice) (r : SampleRight x) where
         let n = each (counted x) (rules f st) (b .counters) in
         let counts = counted-same x x (rules e st) (rules f st) (b .counters) rules-alike in
         let bits = full-same x x (tripRules e st) (tripRules f st) n trips-alike in
-        rw (counts, region-alike, settled-alike, bits)
+        rw (counts, region-alike st, settled-alike, bits)
 
     next-alike : (b : Board) → next e st x b ≡ next f st x b
     unfolding next

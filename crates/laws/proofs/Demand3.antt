@@ -68,7 +68,7 @@ module _ (e : Equipment) (st : Settings) where
   pub status-top : (h : History) → historyStatus e st h ≤ 5
   unfolding historyStatus
   status-top [] = lit≤ tt
-  status-top (x ∷ h) = by (serving e st (x ∷ h)) (regionOf e x) _
+  status-top (x ∷ h) = by (serving e st (x ∷ h)) (regionOf e st x) _
     where
       by : (on : Bool) (r : Region) (full : Bool) → statusOf on r full ≤ 5
       by false r full = lit≤ tt

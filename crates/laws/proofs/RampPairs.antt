@@ -76,7 +76,7 @@ module _ (e : Equipment) (sound : Sound e) (st : Settings) (ok : settingsAccepte
   unfolding sinceCessation
   none-more h p = rw (p, no-cessation) (by (serving e st h) (serving e st (nominal ∷ h)))
     where
-      no-cessation : ceases (regionOf e nominal) ≡ false
+      no-cessation : ceases (regionOf e st nominal) ≡ false
       no-cessation = ap ceases (in-range-continuous e st sound ok nominal (calm-in-range e sound st ok))
 
       by : (was on : Bool) → sinceMore was on false none ≡ none

@@ -48,13 +48,13 @@ module _ (e : Equipment) (st : Settings) where
   -- ---- one sample more
 
   pub one-more : (x : Slice) (h : History)
-      → historyRecovery e st (x ∷ h) ≡ recovering (serving e st h) (serving e st (x ∷ h)) (ceases (regionOf e x)) (historyRecovery e st h)
+      → historyRecovery e st (x ∷ h) ≡ recovering (serving e st h) (serving e st (x ∷ h)) (ceases (regionOf e st x)) (historyRecovery e st h)
   unfolding historyRecovery sinceCessation
-  one-more x h = sym (since-step (serving e st h) (serving e st (x ∷ h)) (ceases (regionOf e x)) (sinceCessation e st h))
+  one-more x h = sym (since-step (serving e st h) (serving e st (x ∷ h)) (ceases (regionOf e st x)) (sinceCessation e st h))
 
-  pub gives : (x : Slice) (h : History) → exports (historyStatus e st (x ∷ h)) ≡ true → (serving e st (x ∷ h) ≡ true) × (ceases (regionOf e x) ≡ false)
+  pub gives : (x : Slice) (h : History) → exports (historyStatus e st (x ∷ h)) ≡ true → (serving e st (x ∷ h) ≡ true) × (ceases (regionOf e st x) ≡ false)
   unfolding historyStatus
-  gives x h p = giving-region (serving e st (x ∷ h)) (regionOf e x) _ p
+  gives x h p = giving-region (serving e st (x ∷ h)) (regionOf e st x) _ p
 
   -- a sample that gives power counts for a board that was in service, and leaves 40 at a return
   pub gives-counts : (x : Slice) (h : History) → exports (historyStatus e st (x ∷ h)) ≡ true → serving e st h ≡ true
@@ -64,7 +64,7 @@ module _ (e : Equipment) (st : Settings) where
   returns-full : (x : Slice) (h : History) → serving e st h ≡ false → historyRecovery e st (x ∷ h) ≡ recoveryTop
   returns-full x h was = one-more x h ∙ rw was (by (serving e st (x ∷ h)))
     where
-      by : (on : Bool) → recovering false on (ceases (regionOf e x)) (historyRecovery e st h) ≡ recoveryTop
+      by : (on : Bool) → recovering false on (ceases (regionOf e st x)) (historyRecovery e st h) ≡ recoveryTop
       by true = refl
       by false = refl
 
@@ -99,7 +99,7 @@ module _ (e : Equipment) (st : Settings) where
     ceased-serving : (h : History) → 4 ≤ historyStatus e st h → serving e st h ≡ true
     unfolding historyStatus
     ceased-serving [] p = absurd (omega (arith, p))
-    ceased-serving (x ∷ h) p = ceased-region (serving e st (x ∷ h)) (regionOf e x) _ p .0
+    ceased-serving (x ∷ h) p = ceased-region (serving e st (x ∷ h)) (regionOf e st x) _ p .0
 
     -- a board that ceases was in service before: a return is in the continuous operation region
     ceased-none : (h : History) → 4 ≤ historyStatus e st h → historyRecovery e st h ≡ 0
@@ -107,8 +107,8 @@ module _ (e : Equipment) (st : Settings) where
     ceased-none [] p = absurd (omega (arith, p))
     ceased-none (x ∷ h) p = by (serving e st h) refl
       where
-        found : (serving e st (x ∷ h) ≡ true) × (ceases (regionOf e x) ≡ true)
-        found = ceased-region (serving e st (x ∷ h)) (regionOf e x) _ p
+        found : (serving e st (x ∷ h) ≡ true) × (ceases (regionOf e st x) ≡ true)
+        found = ceased-region (serving e st (x ∷ h)) (regionOf e st x) _ p
 
         by : (was : Bool) → serving e st h ≡ was → historyRecovery e st (x ∷ h) ≡ 0
         by true was = one-more x h ∙ rw (was, found .0, found .1)

@@ -73,7 +73,7 @@ pub record ReplaysRightly (e : Equipment) (answer : Settings → List ℕ → Li
       → (inService (answer st (samples ++ x) buffer .report .status) ≡ true) ↔ WaitFull e st (x ∷ historyOf st samples)
   pub returns-continuous : (st : Settings) (samples : List ℕ) (x : Slice) (buffer : List ℕ) → Lends st buffer → OneMore samples x
       → answer st samples buffer .report .status ≡ 0
-      → inService (answer st (samples ++ x) buffer .report .status) ≡ true → regionOf e x ≡ Continuous
+      → inService (answer st (samples ++ x) buffer .report .status) ≡ true → regionOf e st x ≡ Continuous
   -- demand 3: two recordings under one sheet leave equal images exactly when no common run tells them apart
   pub images : (st : Settings) (ss ts a b : List ℕ) → Lends st a → Lends st b
       → (take imageLength (into st ss a) ≡ take imageLength (into st ts b)) ↔ Agree e st (historyOf st ss) (historyOf st ts)

@@ -168,7 +168,7 @@ fn settle(
     held: u16,
 ) -> Stepped
     requires { ⌜ (Exportable r s) × (ramp ≤ s .ramp) × (side ≡ sideAfter on (r .frequency)) ⌝ }
-    ensures { λ t. ⌜ ((e : Equipment) (x : Slice) → readingOf e x ≡ r → regionOf e x ≡ area → Bits e s (c .n) (c .bits)
+    ensures { λ t. ⌜ ((e : Equipment) (x : Slice) → readingOf e x ≡ r → regionOf e s x ≡ area → Bits e s (c .n) (c .bits)
         → t ≡ reported e s (settled e s x (c .n) on ramp recovery held)) ⌝ }
 {
     let length = s.ramp;

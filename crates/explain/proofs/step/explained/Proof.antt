@@ -80,7 +80,7 @@ returns-2 c =
     let same = sym (read .read .ensures) in
     let s-rule = of.status-rule-is e (a .s) (now (a .x)) (a .b) (t .step-accepted .result) (t .step-accepted .ensures) _ told (start .pre .1) nine
     (was .in-service .result) (on .in-service2 .result) (status .status-rule .result) (was .in-service .ensures) (on .in-service2 .ensures)
-    (status .status-rule .ensures e (now (a .x)) _ _ refl same
+    (status .status-rule .ensures e (a .s) (now (a .x)) _ _ refl same
     (of.eight-trips e (a .s) (now (a .x)) (a .b) (t .step-accepted .result) (t .step-accepted .ensures) _ told (start .pre .1) nine)
     (of.bits-are e (a .s) (now (a .x)) (a .b) (t .step-accepted .result) (t .step-accepted .ensures) _ told (start .pre .1) nine)) in
     let w-rule = of.watts-rule-is e (a .s) (now (a .x)) (a .b) (t .step-accepted .result) (t .step-accepted .ensures) _ told (start .pre .1)
