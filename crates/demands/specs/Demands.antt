@@ -38,6 +38,7 @@ use Rattle.rules.specs.Reports.{reportOf}
 use Rattle.rules.specs.History.{History, historyReport}
 use Rattle.rules.specs.Images.{savedInto}
 use Rattle.rules.specs.Forms.{numbersOf}
+use Rattle.rules.specs.Statuses.{topStatus}
 use Rattle.rules.specs.Sheets.{SheetReading, readSheet, handedBack}
 use Rattle.rules.specs.Defaults.{defaultSheet, defaultSettings}
 use Rattle.rules.specs.Transcripts.{Line, ended, linesIn, lineStep, reportLine, transcript}
@@ -262,7 +263,7 @@ SamplesOnLines = (l : Line) (x : Slice) → (sampleOn l ≡ some x) ↔ ((writab
 -- are the same.
 abbrev pub StatusWordsTell : Type 0
 StatusWordsTell =
-    (r q : Report) → r .status ≤ 5 → q .status ≤ 5 → (printedStatus (reportLine r) ≡ printedStatus (reportLine q)) ↔ (r .status ≡ q .status)
+    (r q : Report) → r .status ≤ topStatus → q .status ≤ topStatus → (printedStatus (reportLine r) ≡ printedStatus (reportLine q)) ↔ (r .status ≡ q .status)
 
 -- ---- the bits of a report
 

@@ -18,7 +18,7 @@ use rules::Board;
 use rules::Settings;
 use rules::SettingsCheck;
 use sensing::table;
-use service::step::in_service;
+use service::statuses::in_service;
 use service::step_accepted;
 
 // The step under settings that are accepted and with a sensing table lent.

@@ -10,6 +10,7 @@ pub mod RideThroughEnds
 pub mod HigherFrequency
 pub mod Droop
 pub mod Regions
+pub mod Statuses
 pub mod Trip
 pub mod Demand2
 pub mod Saturating

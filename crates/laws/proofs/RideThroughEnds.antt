@@ -13,7 +13,7 @@ use Rattle.rules.specs.Tests.{within}
 use Rattle.rules.specs.Settings.{settingsAccepted}
 use Rattle.rules.specs.Samples.{Slice, Equipment, frequency, lowest, highest}
 use Rattle.rules.specs.Regions.{frequencyRegion, rank, worse, regionIn, regionOf, ceases}
-use Rattle.rules.specs.Service.{statusOf, exports, varsOf, wattsOf}
+use Rattle.rules.specs.Service.{statusOf, exports, withoutPower, varsOf, wattsOf}
 use Rattle.rules.specs.History.{History, serving, climbed, historyStatus, historyRecovery, wattsHolding, historyWatts, historyVars, historyReport}
 use Rattle.rules.specs.declared.Settings.{Settings}
 use Rattle.rules.specs.declared.Region.{Region}
@@ -82,7 +82,6 @@ no-cessation Momentary = ((λ p. absurd (true≢false p)), (λ p. absurd (omega 
 no-cessation Cease = ((λ p. absurd (true≢false p)), (λ p. absurd (omega (arith, p))))
 
 gives-unless : (r : Region) (full : Bool) → exports (statusOf true r full) ≡ not (ceases r)
-unfolding within
 gives-unless Continuous false = refl
 gives-unless Continuous true = refl
 gives-unless Mandatory full = refl
@@ -90,7 +89,6 @@ gives-unless Momentary full = refl
 gives-unless Cease full = refl
 
 silent-status : (on full : Bool) → exports (statusOf on Cease full) ≡ false
-unfolding within
 silent-status false full = refl
 silent-status true full = refl
 
@@ -139,8 +137,8 @@ module _ (e : Equipment) (st : Settings) where
 
   module _ (sound : Sound e) (ok : settingsAccepted st ≡ true) where
     recovers-from-none : (x : Slice) (h : History) → BeyondRideThrough x → serving e st (x ∷ h) ≡ true → historyRecovery e st (x ∷ h) ≡ 0
-    unfolding historyReport within
-    recovers-from-none x h f on = restores-power e st sound ok .ceased (x ∷ h) (ap (within 4 5) (in-cease x h f on))
+    unfolding historyReport
+    recovers-from-none x h f on = restores-power e st sound ok .ceased (x ∷ h) (ap withoutPower (in-cease x h f on))
 
     -- a return is in the continuous operation region
     stays-tripped : (x : Slice) (h : History) → BeyondRideThrough x → serving e st h ≡ false → serving e st (x ∷ h) ≡ false

@@ -11,7 +11,6 @@ use borrow.Author.Tests.{le-leb}
 use lib.Dec.{eqb}
 use lib.IntN.{ℤ}
 use lib.ListN.{length}
-use Rattle.rules.specs.Tests.{within}
 use Rattle.rules.specs.Samples.{Slice, Equipment}
 use Rattle.rules.specs.Counters.{counted, full, tripRules, readyRule, rules}
 use Rattle.rules.specs.Regions.{regionOf, isContinuous, ceases}
@@ -40,7 +39,6 @@ same-items e₁ e₂ e₃ e₄ e₅ e₆ e₇ e₈ = made e₁ e₂ e₃ e₄ e�
     made e₁ e₂ e₃ e₄ e₅ e₆ e₇ e₈ = rw (e₁, e₂, e₃, e₄, e₅, e₆, e₇, e₈)
 
 pub service-status : (on : Bool) (r : Region) (f : Bool) → inService (statusOf on r f) ≡ on
-unfolding within
 service-status false r f = refl
 service-status true Continuous true = refl
 service-status true Continuous false = refl
@@ -50,7 +48,6 @@ service-status true Cease f = refl
 
 -- a status that is read as tripped is not in service, and one that is kept is
 pub kept-service : (status : ℕ) → inService (cond (inService status) status 0) ≡ inService status
-unfolding within
 kept-service status = by (inService status) refl
   where
     by : (b : Bool) → inService status ≡ b → inService (cond b status 0) ≡ b
@@ -77,7 +74,7 @@ module _ (e : Equipment) (st : Settings) where
   nine-counters h = ap length (counters-are h)
 
   pub service-is : (h : History) → inService (recordOf e st h .status) ≡ serving e st h
-  unfolding recordOf settled fresh serving within
+  unfolding recordOf settled fresh serving
   service-is [] = refl
   service-is (x ∷ h) = service-status _ (regionOf e st x) (eqb (min (st .ramp) (climbed e st (x ∷ h))) (st .ramp))
 
@@ -113,7 +110,7 @@ module _ (e : Equipment) (st : Settings) where
   read-counters h = ap (each capped (rules e st)) (counters-are h) ∙ each-all capped (countOf h) h (capped-is h) (rules e st)
 
   read-service : (h : History) → inService (readAs e st (recordOf e st h) .status) ≡ serving e st h
-  unfolding readAs within
+  unfolding readAs
   read-service h = kept-service (recordOf e st h .status) ∙ service-is h
 
   pub read-ramp : (h : History) → readAs e st (recordOf e st h) .ramp ≡ min (st .ramp) (climbed e st h)

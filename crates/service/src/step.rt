@@ -9,7 +9,7 @@ ghost use Rattle.rules.specs.Settings.{settingsAccepted};
 ghost use Rattle.rules.specs.Samples.{Slice, Equipment};
 ghost use Rattle.rules.specs.Regions.{voltageRegion, regionOf, isContinuous, ourEquipment, equippedWith};
 ghost use Rattle.rules.specs.Droop.{sideAfter};
-ghost use Rattle.rules.specs.Service.{serves, ramped, statusOf, inService};
+ghost use Rattle.rules.specs.Service.{serves, ramped, statusOf};
 ghost use Rattle.rules.specs.Refusals.{answerNumber};
 ghost use Rattle.rules.specs.Reports.{packedAfter};
 ghost use Rattle.rules.specs.Records.{fresh, settled, next, stepOf};
@@ -18,6 +18,7 @@ ghost use Rattle.readings.specs.Readings.{readingOf, Exportable};
 ghost use Rattle.claims.specs.Calls.{freshReport};
 ghost use Rattle.service.specs.Steps.{Bits, reported};
 use crate::powers::powers_in;
+use crate::statuses::in_service;
 use droop::held_after;
 use droop::side_after;
 use readings::reading::Reading;
@@ -70,16 +71,6 @@ pub fn fresh_report() -> Report
         watts: 0,
         vars: 0,
     }
-}
-
-// An unknown status is read as tripped.
-pub fn in_service(status: u8) -> bool
-    ensures { λ r. ⌜ r ≡ inService status ⌝ }
-{
-    if status < 1 {
-        return false;
-    }
-    status <= 5
 }
 
 // Spec 6.10, 6.12: in service after the step. The lowest of the nine bits is ready, the others are the limits'.
