@@ -6,7 +6,7 @@ use mathlib.Core.Logic.{_⊎_}
 use mathlib.Core.List.{List, [], _∷_}
 use Prim.Native.Nat.{ℕ}
 use lib.IntN.{pos}
-use Rattle.rules.specs.Sensing.{sensed}
+use Rattle.rules.specs.Sensing.{sensedBy}
 use Rattle.rules.specs.Settings.{settingsCheck, settingsAccepted}
 use Rattle.rules.specs.Samples.{Slice, Equipment, sampleAccepted}
 use Rattle.rules.specs.Droop.{noSide}
@@ -47,7 +47,7 @@ pub record Operations : Type 0 where
 
 -- those that the rules describe, with this equipment
 abbrev pub operationsBy : Equipment → Operations
-operationsBy e = record { check = settingsCheck; sense = sensed; step = stepOf e; save = λ b buffer. saveCheck buffer; buffer = savedInto }
+operationsBy e = record { check = settingsCheck; sense = sensedBy (e .sensing); step = stepOf e; save = λ b buffer. saveCheck buffer; buffer = savedInto }
 
 -- spec 8.2: the report of a fresh board
 abbrev pub freshReport : Report

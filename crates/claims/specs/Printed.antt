@@ -138,7 +138,7 @@ pub record Printed (e : Equipment) (st : Settings) (lines : List Line) (text : L
       → (¬ (printedStatus (getD answers k []) ≡ trippedWord)) ↔ WaitFull e st (x ∷ samplesOn (take k lines))
   -- and it does so in the continuous operation region only
   pub returns-continuous : (k : ℕ) (x : Slice) → AcceptedAt lines k x → lastShown (take k answers) ≡ trippedWord
-      → ¬ (printedStatus (getD answers k []) ≡ trippedWord) → regionOf e x ≡ Continuous
+      → ¬ (printedStatus (getD answers k []) ≡ trippedWord) → regionOf e st x ≡ Continuous
 
 -- spec 10.9: the part of an input that is read
 abbrev pub readPart : List ℕ → List ℕ

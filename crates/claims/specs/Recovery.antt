@@ -5,9 +5,8 @@ use mathlib.Core.Bool.{true}
 use mathlib.Core.List.{List, [], _∷_}
 use Prim.Native.Nat.{ℕ, suc, _*_, _≤_, min}
 use lib.ListN.{length}
-use Rattle.rules.specs.Tests.{within}
 use Rattle.rules.specs.Samples.{Slice, Equipment, sampleAccepted}
-use Rattle.rules.specs.Service.{inService, exports, recoveryLimit, standingLimits, leftBy}
+use Rattle.rules.specs.Service.{inService, exports, withoutPower, recoveryLimit, standingLimits, leftBy}
 use Rattle.rules.specs.Reports.{Items}
 use Rattle.rules.specs.History.{History, followedBy}
 use Rattle.rules.specs.declared.Settings.{Settings}
@@ -19,7 +18,7 @@ GivesPower report h (x ∷ run) = (exports (report (x ∷ h) .status) ≡ true) 
 
 -- at the newest sample the board is in momentary cessation (4) or ceases to energize (5)
 abbrev pub Ceased : (History → Items) → History → Type 0
-Ceased report h = within 4 5 (report h .status) ≡ true
+Ceased report h = withoutPower (report h .status) ≡ true
 
 -- the watts that the limits beside recovery leave of a sample (spec 7.5, 7.8), by what its report shows
 abbrev pub leftByOthers : Equipment → Settings → Slice → Items → ℕ

@@ -86,7 +86,7 @@ Returns e p st =
 -- a return is always in the continuous operation region
 abbrev pub ReturnsContinuous : Equipment → Program → Settings → Type 0
 ReturnsContinuous e p st =
-    (cs : List Call) (c : Call) → Next st cs c → statusBefore p cs ≡ 0 → inService (statusNow p cs c) ≡ true → regionOf e (c .slice) ≡ Continuous
+    (cs : List Call) (c : Call) → Next st cs c → statusBefore p cs ≡ 0 → inService (statusNow p cs c) ≡ true → regionOf e st (c .slice) ≡ Continuous
 
 pub record TripAndReturn (e : Equipment) (p : Program) (st : Settings) : Type 0 where
   pub shows : Shows e p st

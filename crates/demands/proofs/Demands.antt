@@ -282,7 +282,7 @@ pub exportedRules : ExportedRules
 exportedRules = explains-in-numbers
 
 pub ourReplay : OurReplay
-ourReplay = replays-rightly our-equipment-sound
+ourReplay = replays-rightly ourEquipment our-equipment-sound
 
 pub exportedReplay : ExportedReplay
 exportedReplay = exported-replay our-equipment-sound

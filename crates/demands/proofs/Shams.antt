@@ -218,21 +218,21 @@ hertz f = 1000 ∷ 1000 ∷ 1000 ∷ f ∷ 1 ∷ 10000 ∷ 10000 ∷ []
 abbrev steady : History
 steady = hertz 60000 ∷ hertz 60000 ∷ []
 
-pub riding-on : ¬ CeasesBeyondRideThrough ourEquipment (reportRidingOn quick)
+pub riding-on : ¬ CeasesBeyondRideThrough ourEquipment quick (reportRidingOn quick)
 unfolding reportRidingOn all any within largest voltage broken inRange voltageRegion frequencyRegion regionOf curveFrom curve nameplate sideOf drooped varsOf wattsOf streak serving climbed sinceCessation historyStatus historyShare historyRecovery historySide wattsHolding historyHeld historyWatts historyVars historyReport
 riding-on d =
     let e : _≡_ {A = ℕ} 9983 0 = d .nothing (hertz 56999) steady (inl (omega arith)) .0 in
     omega arith
 
-pub low-end : ¬ CeasesBeyondRideThrough ourEquipment (reportCeasingAt 57000 quick)
+pub low-end : ¬ CeasesBeyondRideThrough ourEquipment quick (reportCeasingAt 57000 quick)
 unfolding reportCeasingAt all any within largest voltage broken inRange voltageRegion frequencyRegion regionOf curveFrom curve nameplate sideOf drooped varsOf wattsOf streak serving climbed sinceCessation historyStatus historyShare historyRecovery historySide wattsHolding historyHeld historyWatts historyVars historyReport
 low-end d = false≢true (d .rides (hertz 57000) steady (omega arith) (omega arith) refl .1 (refl, refl))
 
-pub high-end : ¬ CeasesBeyondRideThrough ourEquipment (reportCeasingAt 62000 quick)
+pub high-end : ¬ CeasesBeyondRideThrough ourEquipment quick (reportCeasingAt 62000 quick)
 unfolding reportCeasingAt all any within largest voltage broken inRange voltageRegion frequencyRegion regionOf curveFrom curve nameplate sideOf drooped varsOf wattsOf streak serving climbed sinceCessation historyStatus historyShare historyRecovery historySide wattsHolding historyHeld historyWatts historyVars historyReport
 high-end d = false≢true (d .rides (hertz 62000) steady (omega arith) (omega arith) refl .1 (refl, refl))
 
-pub momentary : ¬ CeasesBeyondRideThrough ourEquipment (reportMomentary quick)
+pub momentary : ¬ CeasesBeyondRideThrough ourEquipment quick (reportMomentary quick)
 unfolding reportMomentary all any within largest voltage broken inRange voltageRegion frequencyRegion regionOf curveFrom curve nameplate sideOf drooped varsOf wattsOf streak serving climbed sinceCessation historyStatus historyShare historyRecovery historySide wattsHolding historyHeld historyWatts historyVars historyReport
 momentary d =
     let e : _≡_ {A = ℕ} 4 5 = d .ceased (hertz 56999) steady (inl (omega arith)) refl .0 in

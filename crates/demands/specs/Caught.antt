@@ -107,10 +107,10 @@ pub record ShamRecoveryCaught : Type 0 where
 -- an end that still belongs to ride-through, 57000 and 62000. One shows momentary cessation. The limits' counters of
 -- the fifth stop there, which is demand 2's to find.
 pub record ShamRideThroughEndsCaught : Type 0 where
-  pub riding-on : ¬ CeasesBeyondRideThrough ourEquipment (reportRidingOn (exampleSheet 0))
-  pub low-end : ¬ CeasesBeyondRideThrough ourEquipment (reportCeasingAt 57000 (exampleSheet 0))
-  pub high-end : ¬ CeasesBeyondRideThrough ourEquipment (reportCeasingAt 62000 (exampleSheet 0))
-  pub momentary : ¬ CeasesBeyondRideThrough ourEquipment (reportMomentary (exampleSheet 0))
+  pub riding-on : ¬ CeasesBeyondRideThrough ourEquipment (exampleSheet 0) (reportRidingOn (exampleSheet 0))
+  pub low-end : ¬ CeasesBeyondRideThrough ourEquipment (exampleSheet 0) (reportCeasingAt 57000 (exampleSheet 0))
+  pub high-end : ¬ CeasesBeyondRideThrough ourEquipment (exampleSheet 0) (reportCeasingAt 62000 (exampleSheet 0))
+  pub momentary : ¬ CeasesBeyondRideThrough ourEquipment (exampleSheet 0) (reportMomentary (exampleSheet 0))
   pub stopped : ¬ TripAndReturn ourEquipment stopsCounting (exampleSheet 0)
 
 -- Seven shams do not droop as they should, on that sheet.

@@ -38,6 +38,7 @@ use Rattle.rules.specs.Reports.{reportOf}
 use Rattle.rules.specs.History.{History, historyReport}
 use Rattle.rules.specs.Images.{savedInto}
 use Rattle.rules.specs.Forms.{numbersOf}
+use Rattle.rules.specs.Statuses.{topStatus}
 use Rattle.rules.specs.Sheets.{SheetReading, readSheet, handedBack}
 use Rattle.rules.specs.Defaults.{defaultSheet, defaultSettings}
 use Rattle.rules.specs.Transcripts.{Line, ended, linesIn, lineStep, reportLine, transcript}
@@ -262,7 +263,7 @@ SamplesOnLines = (l : Line) (x : Slice) → (sampleOn l ≡ some x) ↔ ((writab
 -- are the same.
 abbrev pub StatusWordsTell : Type 0
 StatusWordsTell =
-    (r q : Report) → r .status ≤ 5 → q .status ≤ 5 → (printedStatus (reportLine r) ≡ printedStatus (reportLine q)) ↔ (r .status ≡ q .status)
+    (r q : Report) → r .status ≤ topStatus → q .status ≤ topStatus → (printedStatus (reportLine r) ≡ printedStatus (reportLine q)) ↔ (r .status ≡ q .status)
 
 -- ---- the bits of a report
 
@@ -344,7 +345,7 @@ OurRecovery = (st : Settings) → settingsAccepted st ≡ true → RestoresPower
 -- where neither voltage's region is a cessation. (Counters run there as anywhere: what demand 2's `keeps` and `trips`
 -- count does not depend on the region.)
 abbrev pub OurRideThroughEnds : Type 0
-OurRideThroughEnds = (st : Settings) → settingsAccepted st ≡ true → CeasesBeyondRideThrough ourEquipment (historyReport ourEquipment st)
+OurRideThroughEnds = (st : Settings) → settingsAccepted st ≡ true → CeasesBeyondRideThrough ourEquipment st (historyReport ourEquipment st)
 
 -- Frequency droop, for the network owners: `Droops` in claims/specs/Droop.antt, of the reports of histories too.
 --   - In service above 60036 mHz a board is in an event on side 1, below 59964 on side 2, the step of its return
@@ -464,7 +465,7 @@ AnyRecovery = (e : Equipment) → Sound e → (st : Settings) → settingsAccept
 
 -- no power far outside
 abbrev pub AnyRideThroughEnds : Type 0
-AnyRideThroughEnds = (e : Equipment) → Sound e → (st : Settings) → settingsAccepted st ≡ true → CeasesBeyondRideThrough e (historyReport e st)
+AnyRideThroughEnds = (e : Equipment) → Sound e → (st : Settings) → settingsAccepted st ≡ true → CeasesBeyondRideThrough e st (historyReport e st)
 
 -- droop, for any sensing table and any voltage regions; nothing is asked of them
 abbrev pub AnyDroop : Type 0
@@ -536,11 +537,11 @@ ExportedRules = (st : Settings) → settingsAccepted st ≡ true → ExplainsInN
 --     tells them apart; of whole samples this is said of the replay's own reports too. The bytes behind the image
 --     stay.
 abbrev pub OurReplay : Type 0
-OurReplay = ReplaysRightly replayed replayedInto
+OurReplay = ReplaysRightly ourEquipment replayed replayedInto
 
 -- The same of `saltdelta_replay`, whatever stands in the lent report.
 abbrev pub ExportedReplay : Type 0
-ExportedReplay = (before : Report) → ReplaysRightly (exportedReplay before) replayedInto
+ExportedReplay = (before : Report) → ReplaysRightly ourEquipment (exportedReplay before) replayedInto
 
 -- And there is no choice in the numbers of a sample: `GroupsBySeven` in replay/specs/Demanded.antt.
 abbrev pub ReplayGroups : Type 0

@@ -25,10 +25,10 @@ use Rattle.explain.proofs.Alone.{explained-from}
 
 module _ (e f : Equipment) (a : Alike e f) (b : Board) (st : Settings) (x : Slice) where
   module _ (r : SampleRight x) where
-    cause-alike : regionCause e x ≡ regionCause f x
+    cause-alike : regionCause e st x ≡ regionCause f st x
     unfolding regionCause
     cause-alike =
-        rw (region-alike e f a x r, lowest-alike e f a x r, highest-alike e f a x r, a .region (lowest f x), a .region (highest f x)) refl
+        rw (region-alike e f a x r st, lowest-alike e f a x r, highest-alike e f a x r, a .region (lowest f x), a .region (highest f x)) refl
 
     status-alike : (after : Board) → recordStatusRule e st x b after ≡ recordStatusRule f st x b after
     unfolding recordStatusRule

@@ -54,25 +54,25 @@ module _ (e : Equipment) (st : Settings) where
     off-trips : serving e st h ≡ true → permitted x ≡ true → serving e st (x ∷ h) ≡ false → any trips ≡ true
     off-trips q p r = ⊎-elim (λ f. absurd (true≢false (sym p ∙ f))) (λ o. ran-out e st (x ∷ h) .1 o) (trip-law e st h x q .0 r)
 
-    named : StatusNamed e x (serving e st h) (serving e st (x ∷ h)) out (historyStatusRule e st (x ∷ h))
+    named : StatusNamed e st x (serving e st h) (serving e st (x ∷ h)) out (historyStatusRule e st (x ∷ h))
     unfolding historyStatusRule
-    named = status-named e x (serving e st h) (serving e st (x ∷ h)) trips out refl bits trips-off off-trips
+    named = status-named e st x (serving e st h) (serving e st (x ∷ h)) trips out refl bits trips-off off-trips
 
-    one : (other : StatusRule) → StatusNamed e x (serving e st h) (serving e st (x ∷ h)) out other → other ≡ historyStatusRule e st (x ∷ h)
+    one : (other : StatusRule) → StatusNamed e st x (serving e st h) (serving e st (x ∷ h)) out other → other ≡ historyStatusRule e st (x ∷ h)
     unfolding historyStatusRule
-    one = one-named e x (serving e st h) (serving e st (x ∷ h)) trips out refl bits trips-off off-trips
+    one = one-named e st x (serving e st h) (serving e st (x ∷ h)) trips out refl bits trips-off off-trips
 
-    shown-named : (rule : StatusRule) → StatusNamed e x (serving e st h) (serving e st (x ∷ h)) out rule
-        → StatusNamed e x (servesAfter e st h) (servesAfter e st (x ∷ h)) out rule
+    shown-named : (rule : StatusRule) → StatusNamed e st x (serving e st h) (serving e st (x ∷ h)) out rule
+        → StatusNamed e st x (servesAfter e st h) (servesAfter e st (x ∷ h)) out rule
     shown-named rule n =
-        subst (λ (b : Bool). StatusNamed e x (servesAfter e st h) b out rule) (served (x ∷ h))
-        (subst (λ (b : Bool). StatusNamed e x b (serving e st (x ∷ h)) out rule) (served h) n)
+        subst (λ (b : Bool). StatusNamed e st x (servesAfter e st h) b out rule) (served (x ∷ h))
+        (subst (λ (b : Bool). StatusNamed e st x b (serving e st (x ∷ h)) out rule) (served h) n)
 
-    named-shown : (rule : StatusRule) → StatusNamed e x (servesAfter e st h) (servesAfter e st (x ∷ h)) out rule
-        → StatusNamed e x (serving e st h) (serving e st (x ∷ h)) out rule
+    named-shown : (rule : StatusRule) → StatusNamed e st x (servesAfter e st h) (servesAfter e st (x ∷ h)) out rule
+        → StatusNamed e st x (serving e st h) (serving e st (x ∷ h)) out rule
     named-shown rule n =
-        subst (λ (b : Bool). StatusNamed e x (serving e st h) b out rule) (sym (served (x ∷ h)))
-        (subst (λ (b : Bool). StatusNamed e x b (servesAfter e st (x ∷ h)) out rule) (sym (served h)) n)
+        subst (λ (b : Bool). StatusNamed e st x (serving e st h) b out rule) (sym (served (x ∷ h)))
+        (subst (λ (b : Bool). StatusNamed e st x b (servesAfter e st (x ∷ h)) out rule) (sym (served h)) n)
 
     not-full : historyStatusRule e st (x ∷ h) ≡ StatusRule.WaitNotFull → ¬ WaitFull e st (x ∷ h)
     not-full k full = let off = named .wait .0 k in true≢false (sym (return-law e st h x (off .0) .1 full) ∙ off .1)
@@ -99,7 +99,7 @@ module _ (e : Equipment) (st : Settings) where
 
   watts : (x : Slice) (h : History) → WattsNamed e st x (reportOf (historyReport e st (x ∷ h))) (historyWattsRule e st (x ∷ h))
   unfolding historyWattsRule historyReport reportOf historyWatts wattsHolding historyVars historySide historyStatus
-  watts x h = watts-named e st x (reportOf (historyReport e st (x ∷ h))) refl refl (giving-side (serving e st (x ∷ h)) (regionOf e x) _ (frequency x))
+  watts x h = watts-named e st x (reportOf (historyReport e st (x ∷ h))) refl refl (giving-side (serving e st (x ∷ h)) (regionOf e st x) _ (frequency x))
 
   pub names-watts : NamesWattsRule e st (historyWattsRule e st)
   names-watts = record { fresh = fresh-watts; named = watts }

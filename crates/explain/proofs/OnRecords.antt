@@ -95,7 +95,7 @@ module _ (e : Equipment) (b : Board) (st : Settings) (x : Slice) (r : Report) (s
     -- in service after the step
     on-is : inService (next e st x b .status) ≡ serves was (permitted x) (any trips) ready
     unfolding next ruled settled readAs
-    on-is = service-status _ (regionOf e x) _ ∙ ap (λ (a : Bool). serves a (permitted x) (any trips) ready) (kept-service (b .status))
+    on-is = service-status _ (regionOf e st x) _ ∙ ap (λ (a : Bool). serves a (permitted x) (any trips) ready) (kept-service (b .status))
 
     shown-on : inService (r .status) ≡ serves was (permitted x) (any trips) ready
     unfolding shown reportOf
@@ -128,17 +128,17 @@ module _ (e : Equipment) (b : Board) (st : Settings) (x : Slice) (r : Report) (s
         by true z m = z
         by false z m = absurd (omega arith)
 
-    status-is : s ≡ statusRule was (inService (r .status)) (permitted x) trips (regionCause e x)
+    status-is : s ≡ statusRule was (inService (r .status)) (permitted x) trips (regionCause e st x)
     unfolding recordStatusRule shown reportOf
     status-is =
         sym (rules-are .0) ∙ ap (recordStatusRule e st x b) left
-        ∙ ap (λ (p : Report). statusRule was (inService (p .status)) (permitted x) trips (regionCause e x)) (sym shows)
+        ∙ ap (λ (p : Report). statusRule was (inService (p .status)) (permitted x) trips (regionCause e st x)) (sym shows)
 
-    pub status-on-record : StatusNamed e x was (inService (r .status)) (λ i. bitAt (r .bits) (8 - i) ≡ 1) s
+    pub status-on-record : StatusNamed e st x was (inService (r .status)) (λ i. bitAt (r .bits) (8 - i) ≡ 1) s
     status-on-record =
         let ok = of.sheet-accepted e st x b (stepOf e b st x) refl r told in
-        subst (StatusNamed e x was (inService (r .status)) (λ i. bitAt (r .bits) (8 - i) ≡ 1)) (sym status-is)
-        (status-named e x was (inService (r .status)) trips (λ i. bitAt (r .bits) (8 - i) ≡ 1)
+        subst (StatusNamed e st x was (inService (r .status)) (λ i. bitAt (r .bits) (8 - i) ≡ 1)) (sym status-is)
+        (status-named e st x was (inService (r .status)) trips (λ i. bitAt (r .bits) (8 - i) ≡ 1)
         (of.eight-trips e st x b (stepOf e b st x) refl r told ok nine) bits trips-off off-trips)
 
     -- tripped before the step, the board is in service after it exactly where it is ready

@@ -48,9 +48,9 @@ module _ (e : Equipment) (st : Settings) where
       let trips : each full (tripRules e st) (recordOf e st (x ∷ h) .counters) ≡ map (complete (x ∷ h)) (tripRules e st)
       = ap (each full (tripRules e st)) (counters-are e st (x ∷ h))
       ∙ each-of full (complete (x ∷ h)) (x ∷ h) (full-is (x ∷ h)) (tripRules e st) (readyRule e st ∷ []) in
-      ap₂ (λ (a b : Bool). statusRule a b (permitted x) (each full (tripRules e st) (recordOf e st (x ∷ h) .counters)) (regionCause e x))
+      ap₂ (λ (a b : Bool). statusRule a b (permitted x) (each full (tripRules e st) (recordOf e st (x ∷ h) .counters)) (regionCause e st x))
       (service-is e st h) (service-is e st (x ∷ h))
-      ∙ ap (λ (ts : List Bool). statusRule (serving e st h) (serving e st (x ∷ h)) (permitted x) ts (regionCause e x)) trips
+      ∙ ap (λ (ts : List Bool). statusRule (serving e st h) (serving e st (x ∷ h)) (permitted x) ts (regionCause e st x)) trips
 
   watts-rule-is : (h : History) (x : Slice) → recordWattsRule e st x (recordOf e st (x ∷ h)) ≡ historyWattsRule e st (x ∷ h)
   unfolding recordWattsRule historyWattsRule historyShare

@@ -10,11 +10,12 @@ use lib.ListN.{length, getD}
 use borrow.Author.Tests.{eq-eqb, ne-eqb, eqb-true}
 use Rattle.rules.specs.Tests.{any}
 use Rattle.rules.specs.Samples.{Slice, Equipment, frequency, permitted, lowest, highest}
-use Rattle.rules.specs.Regions.{frequencyRegion, rank, worse, regionOf}
+use Rattle.rules.specs.Regions.{frequencyRegion, rank, worse, regionIn, regionOf}
 use Rattle.rules.specs.declared.Region.{Region}
 use Rattle.rules.specs.declared.Region.the-variants.{Continuous, Mandatory, Momentary, Cease}
 use Rattle.laws.proofs.Regions.{rank-worst}
 use Rattle.explain.specs.Explained.{firstPlace, sameRegion, regionCause, statusRule}
+use Rattle.rules.specs.declared.Settings.{Settings}
 use Rattle.explain.specs.Explains.{LowestHas, HighestHas, FrequencyHas, StatusNamed}
 use Rattle.explain.specs.declared.StatusRule.{StatusRule}
 use Rattle.explain.proofs.FirstPlaces.{IsFirst, place-of, test-at, some-place, any-at}
@@ -47,10 +48,10 @@ same-no : (a b : Region) → (¬ (a ≡ b)) → sameRegion a b ≡ false
 same-no a b e = ne-eqb (rank a) (rank b) (λ k. e (rank-inj a b k))
 
 -- where neither voltage has the worst region, frequency has
-frequency-is : (e : Equipment) (x : Slice) → (¬ (e .region (lowest e x) ≡ regionOf e x)) → (¬ (e .region (highest e x) ≡ regionOf e x))
-    → frequencyRegion (frequency x) ≡ regionOf e x
+frequency-is : (e : Equipment) (st : Settings) (x : Slice) → (¬ (regionIn e st (lowest e x) ≡ regionOf e st x)) → (¬ (regionIn e st (highest e x) ≡ regionOf e st x))
+    → frequencyRegion (frequency x) ≡ regionOf e st x
 unfolding regionOf
-frequency-is e x l k = by (e .region (lowest e x)) (e .region (highest e x)) (frequencyRegion (frequency x)) l k
+frequency-is e st x l k = by (regionIn e st (lowest e x)) (regionIn e st (highest e x)) (frequencyRegion (frequency x)) l k
   where
     by : (a b c : Region) → (¬ (a ≡ worse a (worse b c))) → (¬ (b ≡ worse a (worse b c))) → c ≡ worse a (worse b c)
     by a b c p q =
@@ -60,13 +61,13 @@ frequency-is e x l k = by (e .region (lowest e x)) (e .region (highest e x)) (fr
 
 -- ---- a step's rule, whatever tells which limits have run out
 
-module _ (e : Equipment) (x : Slice) (was on : Bool) (trips : List Bool) (out : ℕ → Type 0)
+module _ (e : Equipment) (st : Settings) (x : Slice) (was on : Bool) (trips : List Bool) (out : ℕ → Type 0)
     (eight : length trips ≡ 8)
     (bits : (i : ℕ) → i < 8 → (getD trips i false ≡ true) ↔ out i)
     (trips-off : was ≡ true → permitted x ≡ true → any trips ≡ true → on ≡ false)
     (off-trips : was ≡ true → permitted x ≡ true → on ≡ false → any trips ≡ true) where
   abbrev rule : StatusRule
-  rule = statusRule was on (permitted x) trips (regionCause e x)
+  rule = statusRule was on (permitted x) trips (regionCause e st x)
 
   -- the five cases of spec 8.6
   by-permission : was ≡ true → on ≡ false → permitted x ≡ false → rule ≡ StatusRule.Permission
@@ -81,7 +82,7 @@ module _ (e : Equipment) (x : Slice) (was on : Bool) (trips : List Bool) (out : 
   by-return : was ≡ false → on ≡ true → rule ≡ StatusRule.Returned
   by-return q r = rw (q, r) refl
 
-  by-region : was ≡ true → on ≡ true → rule ≡ regionCause e x
+  by-region : was ≡ true → on ≡ true → rule ≡ regionCause e st x
   by-region q r = rw (q, r) refl
 
   -- what a rule tells, where it is named
@@ -90,29 +91,29 @@ module _ (e : Equipment) (x : Slice) (was on : Bool) (trips : List Bool) (out : 
   Told (StatusRule.TripLimit place) = (was ≡ true) × (on ≡ false) × (permitted x ≡ true) × (place ≡ firstPlace 1 trips)
   Told StatusRule.WaitNotFull = (was ≡ false) × (on ≡ false)
   Told StatusRule.Returned = (was ≡ false) × (on ≡ true)
-  Told StatusRule.LowestVoltage = (was ≡ true) × (on ≡ true) × LowestHas e x
-  Told StatusRule.HighestVoltage = (was ≡ true) × (on ≡ true) × HighestHas e x × (¬ LowestHas e x)
-  Told StatusRule.Frequency = (was ≡ true) × (on ≡ true) × FrequencyHas e x × (¬ LowestHas e x) × (¬ HighestHas e x)
+  Told StatusRule.LowestVoltage = (was ≡ true) × (on ≡ true) × LowestHas e st x
+  Told StatusRule.HighestVoltage = (was ≡ true) × (on ≡ true) × HighestHas e st x × (¬ LowestHas e st x)
+  Told StatusRule.Frequency = (was ≡ true) × (on ≡ true) × FrequencyHas e st x × (¬ LowestHas e st x) × (¬ HighestHas e st x)
 
   -- the cause of the region, from the ranks of the three
-  cause-told : was ≡ true → on ≡ true → Told (regionCause e x)
+  cause-told : was ≡ true → on ≡ true → Told (regionCause e st x)
   unfolding regionCause
   cause-told q r = by (sameRegion low worst) (sameRegion high worst) refl refl
     where
       low : Region
-      low = e .region (lowest e x)
+      low = regionIn e st (lowest e x)
 
       high : Region
-      high = e .region (highest e x)
+      high = regionIn e st (highest e x)
 
       worst : Region
-      worst = regionOf e x
+      worst = regionOf e st x
 
       by : (a b : Bool) → sameRegion low worst ≡ a → sameRegion high worst ≡ b
           → Told (cond a StatusRule.LowestVoltage (cond b StatusRule.HighestVoltage StatusRule.Frequency))
       by true b l k = (q, r, same-is low worst l)
       by false true l k = (q, r, same-is high worst k, other-is low worst l)
-      by false false l k = (q, r, frequency-is e x (other-is low worst l) (other-is high worst k), other-is low worst l, other-is high worst k)
+      by false false l k = (q, r, frequency-is e st x (other-is low worst l) (other-is high worst k), other-is low worst l, other-is high worst k)
 
   told : Told rule
   told = by was on (permitted x) refl refl refl
@@ -128,17 +129,17 @@ module _ (e : Equipment) (x : Slice) (was on : Bool) (trips : List Bool) (out : 
   named k p = subst Told p told
 
   -- and where it is so, it is named
-  lowest-named : LowestHas e x → regionCause e x ≡ StatusRule.LowestVoltage
+  lowest-named : LowestHas e st x → regionCause e st x ≡ StatusRule.LowestVoltage
   unfolding regionCause
-  lowest-named l = rw (same-yes (e .region (lowest e x)) (regionOf e x) l) refl
+  lowest-named l = rw (same-yes (regionIn e st (lowest e x)) (regionOf e st x) l) refl
 
-  highest-named : HighestHas e x → (¬ LowestHas e x) → regionCause e x ≡ StatusRule.HighestVoltage
+  highest-named : HighestHas e st x → (¬ LowestHas e st x) → regionCause e st x ≡ StatusRule.HighestVoltage
   unfolding regionCause
-  highest-named k l = rw (same-no (e .region (lowest e x)) (regionOf e x) l, same-yes (e .region (highest e x)) (regionOf e x) k) refl
+  highest-named k l = rw (same-no (regionIn e st (lowest e x)) (regionOf e st x) l, same-yes (regionIn e st (highest e x)) (regionOf e st x) k) refl
 
-  frequency-named : (¬ LowestHas e x) → (¬ HighestHas e x) → regionCause e x ≡ StatusRule.Frequency
+  frequency-named : (¬ LowestHas e st x) → (¬ HighestHas e st x) → regionCause e st x ≡ StatusRule.Frequency
   unfolding regionCause
-  frequency-named l k = rw (same-no (e .region (lowest e x)) (regionOf e x) l, same-no (e .region (highest e x)) (regionOf e x) k) refl
+  frequency-named l k = rw (same-no (regionIn e st (lowest e x)) (regionOf e st x) l, same-no (regionIn e st (highest e x)) (regionOf e st x) k) refl
 
   -- ---- the limits
 
@@ -175,7 +176,7 @@ module _ (e : Equipment) (x : Slice) (was on : Bool) (trips : List Bool) (out : 
       let s = some-place 1 trips (off-trips (t .0) (t .2) (t .1)) in
       (omega (arith, s .0, t .3), omega (arith, s .1, t .3, eight))
 
-  pub status-named : StatusNamed e x was on out rule
+  pub status-named : StatusNamed e st x was on out rule
   status-named =
       record {
         permission = (named StatusRule.Permission, λ c. by-permission (c .0) (c .1) (c .2));
@@ -189,7 +190,7 @@ module _ (e : Equipment) (x : Slice) (was on : Bool) (trips : List Bool) (out : 
       }
 
   -- and there is no choice in it
-  pub one-named : (other : StatusRule) → StatusNamed e x was on out other → other ≡ rule
+  pub one-named : (other : StatusRule) → StatusNamed e st x was on out other → other ≡ rule
   one-named other n = by rule refl told
     where
       limited : (place : ℕ) → rule ≡ StatusRule.TripLimit place → (1 ≤ place) × (place ≤ 8) → other ≡ StatusRule.TripLimit place

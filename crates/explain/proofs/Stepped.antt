@@ -42,7 +42,7 @@ use Rattle.explain.specs.declared.ExplainedStep.{ExplainedStep}
 settled-side : (e : Equipment) (s : Settings) (x : Slice) (counters : List ℕ) (on : Bool) (ramp recovery held : ℕ)
     → exports (settled e s x counters on ramp recovery held .status) ≡ true → settled e s x counters on ramp recovery held .side ≡ sideOf (frequency x)
 unfolding settled
-settled-side e s x counters on ramp recovery held = giving-side on (regionOf e x) (eqb ramp (s .ramp)) (frequency x)
+settled-side e s x counters on ramp recovery held = giving-side on (regionOf e s x) (eqb ramp (s .ramp)) (frequency x)
 
 module _ (e : Equipment) (s : Settings) (x : Slice) (b : Board) where
   pub next-watts : next e s x b .watts ≡ wattsOf e s x (next e s x b .status) (shareOf s (next e s x b .ramp)) (next e s x b .recovery) (next e s x b .held)
@@ -154,8 +154,8 @@ module _ (e : Equipment) (s : Settings) (x : Slice) (b : Board) (t : Stepped) (q
             omega (arith, all, length-append trips (ready ∷ []))
 
         pub status-rule-is : (was on : Bool) (rule : StatusRule) → was ≡ inService (b .status) → on ≡ inService (p .status)
-            → rule ≡ statusRule was on (permitted x) trips (regionCause e x) → rule ≡ recordStatusRule e s x b (t .board)
+            → rule ≡ statusRule was on (permitted x) trips (regionCause e s x) → rule ≡ recordStatusRule e s x b (t .board)
         unfolding recordStatusRule shown reportOf
         status-rule-is was on rule before after k =
-            k ∙ ap₂ (λ (i j : Bool). statusRule i j (permitted x) trips (regionCause e x)) before (after ∙ ap (λ (r : Report). inService (r .status)) report-is)
+            k ∙ ap₂ (λ (i j : Bool). statusRule i j (permitted x) trips (regionCause e s x)) before (after ∙ ap (λ (r : Report). inService (r .status)) report-is)
             ∙ ap (recordStatusRule e s x b) (sym left)

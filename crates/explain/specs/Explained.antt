@@ -8,7 +8,7 @@ use lib.IntN.{ℤ}
 use Rattle.rules.specs.Samples.{Slice, Equipment, permitted, lowest, highest}
 use Rattle.rules.specs.Counters.{full, tripRules}
 use Rattle.rules.specs.Curves.{nameplate}
-use Rattle.rules.specs.Regions.{rank, regionOf}
+use Rattle.rules.specs.Regions.{rank, regionIn, regionOf}
 use Rattle.rules.specs.Service.{PowerLimit, availablePower, operatorsLimit, rampShare, voltWatt, nameplateRating, cessationRecovery, frequencyDroop}
 use Rattle.rules.specs.Service.{Limited, leaves, wattCurve, recoveryLimit, powerLimits, leftBy, inService, exports, shareOf}
 use Rattle.rules.specs.Records.{each, stepOf}
@@ -40,8 +40,8 @@ firstWorst worst low high =
     (cond (sameRegion high worst) StatusRule.HighestVoltage
     StatusRule.Frequency)
 
-unfoldable pub regionCause : Equipment → Slice → StatusRule
-regionCause e x = firstWorst (regionOf e x) (e .region (lowest e x)) (e .region (highest e x))
+unfoldable pub regionCause : Equipment → Settings → Slice → StatusRule
+regionCause e st x = firstWorst (regionOf e st x) (regionIn e st (lowest e x)) (regionIn e st (highest e x))
 
 -- spec 8.6: the rule of a step, from: in service before and after it, permission, the limits' bits in sheet order, the region's cause
 abbrev pub statusRule : Bool → Bool → Bool → List Bool → StatusRule → StatusRule
@@ -81,7 +81,7 @@ wattsRule status limits = cond (exports status) (firstLeaving (leftBy limits) li
 unfoldable pub historyStatusRule : Equipment → Settings → History → StatusRule
 historyStatusRule e st [] = StatusRule.WaitNotFull
 historyStatusRule e st (x ∷ h) =
-    statusRule (serving e st h) (serving e st (x ∷ h)) (permitted x) (map (complete (x ∷ h)) (tripRules e st)) (regionCause e x)
+    statusRule (serving e st h) (serving e st (x ∷ h)) (permitted x) (map (complete (x ∷ h)) (tripRules e st)) (regionCause e st x)
 
 -- the limits at the newest sample
 abbrev pub historyLimits : Equipment → Settings → Slice → History → List Limited
@@ -97,7 +97,7 @@ historyWattsRule e st (x ∷ h) = wattsRule (historyStatus e st (x ∷ h)) (hist
 -- from the record as it was lent and as the step leaves it
 unfoldable pub recordStatusRule : Equipment → Settings → Slice → Board → Board → StatusRule
 recordStatusRule e st x before after =
-    statusRule (inService (before .status)) (inService (after .status)) (permitted x) (each full (tripRules e st) (after .counters)) (regionCause e x)
+    statusRule (inService (before .status)) (inService (after .status)) (permitted x) (each full (tripRules e st) (after .counters)) (regionCause e st x)
 
 unfoldable pub recordWattsRule : Equipment → Settings → Slice → Board → WattsRule
 recordWattsRule e st x after =

@@ -11,7 +11,7 @@ use lib.ListN.{length, getD}
 use Rattle.rules.specs.Settings.{limitAt}
 use Rattle.rules.specs.Samples.{Slice, Equipment, frequency, permitted, available, operatorLimit, lowest, highest, mean}
 use Rattle.rules.specs.Curves.{curve, nameplate}
-use Rattle.rules.specs.Regions.{frequencyRegion, regionOf}
+use Rattle.rules.specs.Regions.{frequencyRegion, regionIn, regionOf}
 use Rattle.rules.specs.Service.{inService, exports}
 use Rattle.rules.specs.Refusals.{refusalNumber}
 use Rattle.rules.specs.Reports.{reportOf}
@@ -83,17 +83,17 @@ LeavesReports e p = (b : Board) (st : Settings) (x : Slice) → stepAlone (p .st
 -- ---- what the rule for a status says
 
 -- lowest voltage, highest voltage, frequency: each has the region of the sample
-abbrev pub LowestHas : Equipment → Slice → Type 0
-LowestHas e x = e .region (lowest e x) ≡ regionOf e x
+abbrev pub LowestHas : Equipment → Settings → Slice → Type 0
+LowestHas e st x = regionIn e st (lowest e x) ≡ regionOf e st x
 
-abbrev pub HighestHas : Equipment → Slice → Type 0
-HighestHas e x = e .region (highest e x) ≡ regionOf e x
+abbrev pub HighestHas : Equipment → Settings → Slice → Type 0
+HighestHas e st x = regionIn e st (highest e x) ≡ regionOf e st x
 
-abbrev pub FrequencyHas : Equipment → Slice → Type 0
-FrequencyHas e x = frequencyRegion (frequency x) ≡ regionOf e x
+abbrev pub FrequencyHas : Equipment → Settings → Slice → Type 0
+FrequencyHas e st x = frequencyRegion (frequency x) ≡ regionOf e st x
 
 -- of a step's rule, from: the sample, in service before and after it, and which of the limits, 0 to 7 in sheet order, have run out at it
-pub record StatusNamed (e : Equipment) (x : Slice) (was on : Bool) (out : ℕ → Type 0) (rule : StatusRule) : Type 0 where
+pub record StatusNamed (e : Equipment) (st : Settings) (x : Slice) (was on : Bool) (out : ℕ → Type 0) (rule : StatusRule) : Type 0 where
   -- permission: it trips here, with permission off
   pub permission : (rule ≡ StatusRule.Permission) ↔ ((was ≡ true) × (on ≡ false) × (permitted x ≡ false))
   -- limit i, whose place is i + 1: in service before, permission is on, the limit has run out here, and none before it has
@@ -104,9 +104,9 @@ pub record StatusNamed (e : Equipment) (x : Slice) (was on : Bool) (out : ℕ �
   pub wait : (rule ≡ StatusRule.WaitNotFull) ↔ ((was ≡ false) × (on ≡ false))
   pub returned : (rule ≡ StatusRule.Returned) ↔ ((was ≡ false) × (on ≡ true))
   -- the cause of the region: it has that region, and those before it have not
-  pub by-lowest : (rule ≡ StatusRule.LowestVoltage) ↔ ((was ≡ true) × (on ≡ true) × LowestHas e x)
-  pub by-highest : (rule ≡ StatusRule.HighestVoltage) ↔ ((was ≡ true) × (on ≡ true) × HighestHas e x × (¬ LowestHas e x))
-  pub by-frequency : (rule ≡ StatusRule.Frequency) ↔ ((was ≡ true) × (on ≡ true) × FrequencyHas e x × (¬ LowestHas e x) × (¬ HighestHas e x))
+  pub by-lowest : (rule ≡ StatusRule.LowestVoltage) ↔ ((was ≡ true) × (on ≡ true) × LowestHas e st x)
+  pub by-highest : (rule ≡ StatusRule.HighestVoltage) ↔ ((was ≡ true) × (on ≡ true) × HighestHas e st x × (¬ LowestHas e st x))
+  pub by-frequency : (rule ≡ StatusRule.Frequency) ↔ ((was ≡ true) × (on ≡ true) × FrequencyHas e st x × (¬ LowestHas e st x) × (¬ HighestHas e st x))
 
 -- of any rules of histories; ours are `historyStatusRule`
 module _ (e : Equipment) (st : Settings) where
@@ -118,7 +118,7 @@ module _ (e : Equipment) (st : Settings) where
     pub fresh : rule [] ≡ StatusRule.WaitNotFull
     -- a limit has run out where it was broken at each of the last samples of its whole clearing time, ending at the newest
     pub named : (x : Slice) (h : History)
-        → StatusNamed e x (servesAfter h) (servesAfter (x ∷ h)) (λ i. Held (brokenAt e st i) (limitAt st i .clearing) (x ∷ h)) (rule (x ∷ h))
+        → StatusNamed e st x (servesAfter h) (servesAfter (x ∷ h)) (λ i. Held (brokenAt e st i) (limitAt st i .clearing) (x ∷ h)) (rule (x ∷ h))
     -- where the wait is named it is not full, and at a return it is
     pub not-full : (x : Slice) (h : History) → rule (x ∷ h) ≡ StatusRule.WaitNotFull → ¬ WaitFull e st (x ∷ h)
     pub full : (x : Slice) (h : History) → rule (x ∷ h) ≡ StatusRule.Returned → WaitFull e st (x ∷ h)
@@ -190,7 +190,7 @@ pub record NamesOnRecords (e : Equipment) (p : Explaining) : Type 0 where
   -- limit i has run out where its bit of the nine is 1
   pub status : (b : Board) (st : Settings) (x : Slice) (r : Report) (s : StatusRule) (w : WattsRule) → length (b .counters) ≡ 9
       → p .step b st x .answer ≡ ExplainedAnswer.Reported r s w
-      → StatusNamed e x (inService (b .status)) (inService (r .status)) (λ i. bitAt (r .bits) (8 - i) ≡ 1) s
+      → StatusNamed e st x (inService (b .status)) (inService (r .status)) (λ i. bitAt (r .bits) (8 - i) ≡ 1) s
   -- ready, the lowest bit, is 0 where the wait is named, and 1 at a return
   pub ready : (b : Board) (st : Settings) (x : Slice) (r : Report) (s : StatusRule) (w : WattsRule) → length (b .counters) ≡ 9
       → p .step b st x .answer ≡ ExplainedAnswer.Reported r s w

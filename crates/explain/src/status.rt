@@ -6,6 +6,7 @@ ghost use lib.ListN.{length};
 ghost use Rattle.rules.specs.Samples.{Slice, Equipment, permitted};
 ghost use Rattle.rules.specs.Regions.{voltageRegion, worse};
 ghost use Rattle.rules.specs.Reports.{packedAfter};
+ghost use Rattle.rules.specs.declared.Settings.{Settings};
 ghost use Rattle.readings.specs.Readings.{readingOf};
 ghost use Rattle.explain.specs.Explained.{firstWorst, regionCause, statusRule};
 ghost use Rattle.explain.specs.Places.{placed};
@@ -54,8 +55,8 @@ fn region_cause(low: Region, high: Region, frequency: Region) -> StatusRule
 
 // The rule of a step, from: in service before and after it, the nine bits, and what is read from its sample.
 pub fn status_rule(was: bool, on: bool, bits: u16, r: Reading) -> StatusRule
-    ensures { λ k. ⌜ ((e : Equipment) (x : Slice) (trips : List Bool) (ready : Bool) → e .region ≡ voltageRegion → readingOf e x ≡ r
-        → length trips ≡ 8 → bits ≡ packedAfter 0 (trips ++ (ready ∷ [])) → k ≡ statusRule was on (permitted x) trips (regionCause e x)) ⌝ }
+    ensures { λ k. ⌜ ((e : Equipment) (st : Settings) (x : Slice) (trips : List Bool) (ready : Bool) → e .region ≡ voltageRegion → readingOf e x ≡ r
+        → length trips ≡ 8 → bits ≡ packedAfter 0 (trips ++ (ready ∷ [])) → k ≡ statusRule was on (permitted x) trips (regionCause e st x)) ⌝ }
 {
     if on {
         if !was {

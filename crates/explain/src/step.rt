@@ -2,6 +2,7 @@
 ghost use mathlib.Core.Path.{_≡_};
 ghost use mathlib.Core.Bool.{true};
 ghost use mathlib.Core.List.{_++_};
+ghost use lib.ListN.{length};
 ghost use Rattle.rules.specs.Settings.{settingsAccepted};
 ghost use Rattle.rules.specs.Regions.{ourEquipment, equippedWith};
 ghost use Rattle.causes.specs.FirstCause.{first, settingsCauses, sampleCauses};
@@ -17,12 +18,12 @@ use rules::Board;
 use rules::Settings;
 use rules::SettingsCheck;
 use sensing::table;
-use service::step::in_service;
+use service::statuses::in_service;
 use service::step_accepted;
 
 // The step under settings that are accepted and with a sensing table lent.
-fn explained(table: &[u16; 4096], b: Board, s: Settings, x: &[u32]) -> ExplainedStep
-    requires { ⌜ settingsAccepted s ≡ true ⌝ }
+fn explained(table: &[u16], b: Board, s: Settings, x: &[u32]) -> ExplainedStep
+    requires { ⌜ (length (now table) ≡ 4096) × (settingsAccepted s ≡ true) ⌝ }
     ensures { λ t. ⌜ t ≡ explainedStep (equippedWith (now (table .entry))) b s (now (x .entry)) ⌝ }
 {
     let next = step_accepted(table, b, s, x);
@@ -47,9 +48,10 @@ fn explained(table: &[u16; 4096], b: Board, s: Settings, x: &[u32]) -> Explained
     }
 }
 
-// The step, with the rules that held beside its report; a refused call has none, and changes nothing.
-pub fn step(b: Board, s: Settings, x: &[u32]) -> ExplainedStep
-    ensures { λ t. ⌜ t ≡ explainedStep ourEquipment b s (now (x .entry)) ⌝ }
+// The step with a sensing table lent, and the rules that held beside its report; a refused call has none, and changes nothing.
+pub fn step_by(table: &[u16], b: Board, s: Settings, x: &[u32]) -> ExplainedStep
+    requires { ⌜ length (now table) ≡ 4096 ⌝ }
+    ensures { λ t. ⌜ t ≡ explainedStep (equippedWith (now (table .entry))) b s (now (x .entry)) ⌝ }
     ensures { λ t. ⌜ explainedNumber (t .answer) ≡ first (settingsCauses s ++ sampleCauses (now (x .entry))) ⌝ }
 {
     match settings::check(s) {
@@ -57,9 +59,15 @@ pub fn step(b: Board, s: Settings, x: &[u32]) -> ExplainedStep
             board: b,
             answer: ExplainedAnswer::Refused(cause),
         },
-        SettingsCheck::Accepted => {
-            let t = table();
-            explained(&t, b, s, x)
-        }
+        SettingsCheck::Accepted => explained(table, b, s, x),
     }
+}
+
+// The step, with our table.
+pub fn step(b: Board, s: Settings, x: &[u32]) -> ExplainedStep
+    ensures { λ t. ⌜ t ≡ explainedStep ourEquipment b s (now (x .entry)) ⌝ }
+    ensures { λ t. ⌜ explainedNumber (t .answer) ≡ first (settingsCauses s ++ sampleCauses (now (x .entry))) ⌝ }
+{
+    let t = table();
+    step_by(&t, b, s, x)
 }

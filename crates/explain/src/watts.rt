@@ -18,6 +18,7 @@ use power::within_nameplate;
 use readings::reading::Reading;
 use rules::Report;
 use rules::Settings;
+use service::statuses::gives_power;
 
 // Of the last three limits the first that leaves no more than the watts, which are what these three leave. None leaves less, so that the last
 // need not be looked at, and a nameplate with room for one watt more is not the one.
@@ -78,10 +79,7 @@ pub fn watts_rule(r: Reading, s: Settings, report: Report) -> WattsRule
         → report .vars ≡ varsOf e s x (report .status)
         → k ≡ wattsRule (report .status) (powerLimits e s x (report .share) (report .recovery) (report .held) (report .vars))) ⌝ }
 {
-    if report.status < 1 {
-        return WattsRule::Status;
-    }
-    if 3 < report.status {
+    if !gives_power(report.status) {
         return WattsRule::Status;
     }
     if side_of(r.frequency) == 0 {

@@ -123,8 +123,8 @@ fn refused_settings(b: Board, s: Settings) -> Stepped
 }
 
 // What a line with or without numbers makes of a board: a step, or the refusal of a line that has not its form.
-fn answer_to(table: &[u16; 4096], fine: bool, b: Board, s: Settings, x: LineAt) -> Stepped
-    requires { ⌜ fine ≡ settingsAccepted s ⌝ }
+fn answer_to(table: &[u16], fine: bool, b: Board, s: Settings, x: LineAt) -> Stepped
+    requires { ⌜ (length (now table) ≡ 4096) × (fine ≡ settingsAccepted s) ⌝ }
     ensures { λ r. ⌜ r ≡ lineAnswer (equippedWith (now (table .entry))) b s x ⌝ }
 {
     if !x.found {
@@ -151,8 +151,8 @@ fn answerable(ended: bool, room: usize) -> bool
 }
 
 // The sample lines of a block, as many as are there and fit, from a place that the state stands at.
-pub fn sample_lines(table: &[u16; 4096], h: Handled, s: &[u8], out: &mut [u8]) -> Handled
-    requires { ⌜ (h .state .stage ≡ 1) × (Fit (h .state) (length (now s) - h .at)) × (h .at ≤ length (now s)) × (h .written ≤ length (now out)) ⌝ }
+pub fn sample_lines(table: &[u16], h: Handled, s: &[u8], out: &mut [u8]) -> Handled
+    requires { ⌜ (h .state .stage ≡ 1) × (Fit (h .state) (length (now s) - h .at)) × (h .at ≤ length (now s)) × (h .written ≤ length (now out)) × (length (now table) ≡ 4096) ⌝ }
     ensures { λ r. ⌜ Carried (equippedWith (now (table .entry))) (now (s .entry)) (now (out .entry)) h (now (out .exit)) r ⌝ }
     ensures { λ r. ⌜ Stuck (now (s .entry)) (now (out .entry)) r ⌝ }
 {

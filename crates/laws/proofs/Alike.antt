@@ -1,9 +1,12 @@
 -- Equipments with the same voltages for the codes that are accepted, and the same regions, step alike.
 -- Assumes nothing.
 use mathlib.Core.Path.{_≡_, refl, ap, _∙_}
-use mathlib.Core.Bool.{Bool}
+use mathlib.Core.Bool.{Bool, true, false, cond}
 use mathlib.Core.List.{List, [], _∷_}
 use Prim.Native.Nat.{ℕ, suc}
+use lib.Dec.{leb}
+use borrow.Author.Tests.{leb-true}
+use Rattle.rules.specs.Sensing.{lastCode, sensedBy}
 use Rattle.rules.specs.Settings.{settingsCheck, limitAt}
 use Rattle.rules.specs.Samples.{Slice, Equipment, codeOf, phase, lowest, highest, mean, sampleCheck}
 use Rattle.rules.specs.Samples as samples
@@ -16,7 +19,10 @@ use Rattle.rules.specs.declared.Settings.{Settings}
 use Rattle.rules.specs.declared.Board.{Board}
 use Rattle.rules.specs.declared.SettingsCheck.{SettingsCheck}
 use Rattle.rules.specs.declared.SampleCheck.{SampleCheck}
+use Rattle.rules.specs.declared.Refusal.the-variants.{Code}
+use Rattle.rules.specs.declared.Sensed.{Sensed}
 use Rattle.causes.specs.Alike.{Alike}
+use Rattle.causes.specs.Calls.{Call, Run, ruledBy, called, calledAll}
 use Rattle.laws.proofs.Accepted.{SampleRight, sample-right}
 use Rattle.laws.proofs.SameRules.{SameRules, same-append, counted-same, full-same, capped-same}
 
@@ -41,9 +47,9 @@ module _ (e f : Equipment) (a : Alike e f) (x : Slice) (r : SampleRight x) where
   pub mean-alike : mean e x ≡ mean f x
   mean-alike = rw (phase0, phase1, phase2)
 
-  pub region-alike : regionOf e x ≡ regionOf f x
+  pub region-alike : (st : Settings) → regionOf e st x ≡ regionOf f st x
   unfolding regionOf
-  region-alike = rw (lowest-alike, highest-alike, a .region (lowest f x), a .region (highest f x))
+  region-alike st = rw (lowest-alike, highest-alike, a .region (lowest f x), a .region (highest f x))
 
   -- ---- the nine rules
 
@@ -82,7 +88,7 @@ module _ (e f : Equipment) (a : Alike e f) (x : Slice) (r : SampleRight x) where
     settled-alike : (counters : List ℕ) (on : Bool) (ramp recovery held : ℕ)
         → settled e st x counters on ramp recovery held ≡ settled f st x counters on ramp recovery held
     unfolding settled
-    settled-alike counters on ramp recovery held = rw (region-alike, watts-alike, vars-alike)
+    settled-alike counters on ramp recovery held = rw (region-alike st, watts-alike, vars-alike)
 
     read-alike : (b : Board) → readAs e st b ≡ readAs f st b
     unfolding readAs
@@ -94,7 +100,7 @@ module _ (e f : Equipment) (a : Alike e f) (x : Slice) (r : SampleRight x) where
         let n = each (counted x) (rules f st) (b .counters) in
         let counts = counted-same x x (rules e st) (rules f st) (b .counters) rules-alike in
         let bits = full-same x x (tripRules e st) (tripRules f st) n trips-alike in
-        rw (counts, region-alike, settled-alike, bits)
+        rw (counts, region-alike st, settled-alike, bits)
 
     next-alike : (b : Board) → next e st x b ≡ next f st x b
     unfolding next
@@ -118,3 +124,20 @@ module _ (e f : Equipment) (a : Alike e f) where
   pub step-alike : (b : Board) (st : Settings) (x : Slice) → stepOf e b st x ≡ stepOf f b st x
   unfolding stepOf
   step-alike b st x = settings-alike b st x (settingsCheck st)
+
+  -- and so every list of calls ends alike
+  pub calls-alike : (cs : List Call) (r : Run) → calledAll (ruledBy e) r cs ≡ calledAll (ruledBy f) r cs
+  calls-alike [] r = refl
+  calls-alike (c ∷ cs) r =
+      rw (step-alike (r .board) (c .settings) (c .slice)) (calls-alike cs (called (ruledBy f) r c))
+
+  -- ---- sensing
+
+  pub sensed-alike : (code : ℕ) → sensedBy (e .sensing) code ≡ sensedBy (f .sensing) code
+  unfolding sensedBy
+  sensed-alike code = by (leb code lastCode) refl
+    where
+      by : (b : Bool) → leb code lastCode ≡ b
+          → cond b (Sensed.Volts (e .sensing code)) (Sensed.Refused Code) ≡ cond b (Sensed.Volts (f .sensing code)) (Sensed.Refused Code)
+      by true p = ap (λ (v : ℕ). Sensed.Volts v) (a .sensing code (leb-true code lastCode p))
+      by false p = refl

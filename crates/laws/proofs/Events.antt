@@ -10,7 +10,6 @@ use borrow.Author.Tests.{ne-eqb}
 use lib.Dec.{ltb, eqb, lit≤}
 use lib.IntN.{ℤ}
 use lib.ListN.{length, length-append}
-use Rattle.rules.specs.Tests.{within}
 use Rattle.rules.specs.Samples.{Slice, Equipment, frequency, available, operatorLimit}
 use Rattle.rules.specs.Curves.{nameplate}
 use Rattle.rules.specs.Droop.{deadbandHigh, deadbandLow, noSide, sideOf, sideAfter, knownSide, heldAfter, drooped}
@@ -102,7 +101,6 @@ watts-available e st x status share recovery held = by (exports status)
 
 -- a board that gives power is in service, and on the frequency's side
 pub giving-side : (on : Bool) (r : Region) (full : Bool) (f : ℕ) → exports (statusOf on r full) ≡ true → sideAfter on f ≡ sideOf f
-unfolding within
 giving-side false r full f p = absurd (false≢true p)
 giving-side true r full f p = refl
 

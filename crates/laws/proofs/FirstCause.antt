@@ -10,7 +10,7 @@ use lib.ListN.{length, drop}
 use lib.Seq.{drop-at}
 use borrow.Author.Tests.{leb-true, leb-false, lt-ltb, le-ltb}
 use Rattle.rules.specs.Tests.{all, within}
-use Rattle.rules.specs.Sensing.{lastCode, voltage, sensed}
+use Rattle.rules.specs.Sensing.{lastCode, sensedBy}
 use Rattle.rules.specs.Settings.{Pair, Row, rows, inRow, rising, checkFrom, linesOf, settingsCheck, settingsPassed, settingsAccepted}
 use Rattle.rules.specs.Refusals.{refusalNumber, settingsNumber, lineOf, sampleNumber, sensedNumber, answerNumber, savedNumber}
 use Rattle.rules.specs.Samples.{Slice, Equipment, codeOf, frequency, permission, available, operatorLimit, unless, sampleCheck}
@@ -173,11 +173,11 @@ module _ (e : Equipment) (b : Board) (st : Settings) (x : Slice) where
 
 -- ---- sensing and saving
 
-pub sense-number : (code : ℕ) → sensedNumber (sensed code) ≡ first (cause 4 (ltb lastCode code) ∷ [])
-unfolding sensed
-sense-number code = by (leb code lastCode) ∙ ap (λ (b : Bool). cond b 4 0) (above code lastCode)
+pub sense-number : (volts : ℕ → ℕ) (code : ℕ) → sensedNumber (sensedBy volts code) ≡ first (cause 4 (ltb lastCode code) ∷ [])
+unfolding sensedBy
+sense-number volts code = by (leb code lastCode) ∙ ap (λ (b : Bool). cond b 4 0) (above code lastCode)
   where
-    by : (b : Bool) → sensedNumber (cond b (Sensed.Volts (voltage code)) (Sensed.Refused Code)) ≡ cond (not b) 4 0
+    by : (b : Bool) → sensedNumber (cond b (Sensed.Volts (volts code)) (Sensed.Refused Code)) ≡ cond (not b) 4 0
     by true = refl
     by false = refl
 
@@ -210,7 +210,7 @@ refuses-rightly e =
     record {
       check = settings-number;
       check-line = settings-line;
-      sense = sense-number;
+      sense = sense-number (e .sensing);
       step = step-number e;
       step-keeps = step-kept e;
       save = λ b. save-number;

@@ -3,6 +3,7 @@ ghost use mathlib.Core.Path.{_≡_};
 ghost use mathlib.Core.Bool.{true};
 ghost use mathlib.Core.List.{[], _∷_};
 ghost use lib.Dec.{leb};
+ghost use lib.ListN.{length};
 ghost use Rattle.rules.specs.Tests.{all, within};
 ghost use Rattle.rules.specs.Sensing.{lastCode};
 ghost use Rattle.rules.specs.Samples.{sampleCheck, sampleAccepted};
@@ -70,8 +71,8 @@ pub fn check(x: &[u32]) -> SampleCheck
 }
 
 // The reading of an accepted slice, by a lent sensing table.
-pub fn read(table: &[u16; 4096], x: &[u32]) -> Reading
-    requires { ⌜ sampleAccepted (now x) ≡ true ⌝ }
+pub fn read(table: &[u16], x: &[u32]) -> Reading
+    requires { ⌜ (length (now table) ≡ 4096) × (sampleAccepted (now x) ≡ true) ⌝ }
     ensures { λ r. ⌜ r ≡ readingOf (equippedWith (now (table .entry))) (now (x .entry)) ⌝ }
 {
     let first = x[0];

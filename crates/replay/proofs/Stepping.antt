@@ -8,7 +8,6 @@ use native.Mathlib.Omega.{arith}
 use lib.ListN.{length, take, drop, length-drop, drop-of-length-le}
 use Rattle.rules.specs.Settings.{settingsAccepted}
 use Rattle.rules.specs.Samples.{Slice, Equipment, sampleAccepted}
-use Rattle.rules.specs.Regions.{ourEquipment}
 use Rattle.rules.specs.Refusals.{answerNumber}
 use Rattle.rules.specs.Records.{fresh, stepOf}
 use Rattle.rules.specs.History.{History}
@@ -18,11 +17,11 @@ use Rattle.rules.specs.declared.Report.{Report}
 use Rattle.rules.specs.declared.Refusal.{Refusal}
 use Rattle.rules.specs.declared.Answer.{Answer}
 use Rattle.rules.specs.declared.Stepped.{Stepped}
-use Rattle.causes.specs.Calls.{Call, Run, Program, ruledBy, freshReport, lastReport, calledAll, callAccepted, acceptedAfter, acceptedSamples}
+use Rattle.causes.specs.Calls.{Call, Run, ruledBy, freshReport, lastReport, calledAll, callAccepted, acceptedAfter, acceptedSamples}
 use Rattle.basics.proofs.Bools.{both}
 use Rattle.basics.proofs.Refusals.{number-bounds}
 use Rattle.laws.proofs.Steps.{accepted-step, refused-step}
-use Rattle.replay.specs.Replays.{groupLength, callOf, callsOf, runOver, ran}
+use Rattle.replay.specs.Replays.{groupLength, callOf, callsOf, runOver, ranBy}
 use Rattle.replay.specs.declared.Ran.{Ran}
 use Rattle.replay.proofs.Groups.{calls-none, calls-next, group-lent, groups-left}
 
@@ -52,20 +51,17 @@ module _ (e : Equipment) (b : Board) (st : Settings) (x : Slice) where
 
 -- ---- the loop
 
-abbrev ours : Program
-ours = ruledBy ourEquipment
-
 abbrev working : Board → Report → Run
 working board report = record { board = board; report = report }
 
-module _ (st : Settings) (samples : List ℕ) where
+module _ (e : Equipment) (st : Settings) (samples : List ℕ) where
   -- the calls that are left at a place
   abbrev left : ℕ → List Call
   left at = callsOf st (drop at samples)
 
   pub record Going (at : ℕ) (board : Board) (report : Report) (accepted : ℕ) : Type 0 where
     pub inside : at ≤ length samples
-    pub run : calledAll ours (working board report) (left at) ≡ runOver st samples
+    pub run : calledAll (ruledBy e) (working board report) (left at) ≡ runOver e st samples
     pub history : History
     pub so-far : acceptedAfter history (left at) ≡ acceptedSamples (callsOf st samples)
     pub counted : length history ≡ accepted
@@ -75,7 +71,7 @@ module _ (st : Settings) (samples : List ℕ) where
   beginning board report b r =
       record {
         inside = omega arith;
-        run = ap₂ (λ (k : Board) (p : Report). calledAll ours (working k p) (callsOf st samples)) b r;
+        run = ap₂ (λ (k : Board) (p : Report). calledAll (ruledBy e) (working k p) (callsOf st samples)) b r;
         history = [];
         so-far = refl;
         counted = refl;
@@ -84,7 +80,7 @@ module _ (st : Settings) (samples : List ℕ) where
 
   module _ (at : ℕ) (board : Board) (report : Report) (accepted : ℕ) (g : Going at board report accepted) (more : at < length samples)
       (end : ℕ) (ends : end ≡ at + min groupLength (length samples - at))
-      (t : Stepped) (is : t ≡ stepOf ourEquipment board st (take (end - at) (drop at samples))) where
+      (t : Stepped) (is : t ≡ stepOf e board st (take (end - at) (drop at samples))) where
     abbrev group : Slice
     group = take groupLength (drop at samples)
 
@@ -93,16 +89,16 @@ module _ (st : Settings) (samples : List ℕ) where
         calls-next st (drop at samples) (omega (arith, length-drop at samples))
         ∙ ap (λ (s : List ℕ). callOf st group ∷ callsOf st s) (groups-left samples at end more ends)
 
-    stepped : t ≡ stepOf ourEquipment board st group
-    stepped = is ∙ ap (stepOf ourEquipment board st) (group-lent samples at end more ends)
+    stepped : t ≡ stepOf e board st group
+    stepped = is ∙ ap (stepOf e board st) (group-lent samples at end more ends)
 
-    answered : (a : Answer) → t .answer ≡ a → stepOf ourEquipment board st group .answer ≡ a
+    answered : (a : Answer) → t .answer ≡ a → stepOf e board st group .answer ≡ a
     answered a told = sym (ap (λ (u : Stepped). u .answer) stepped) ∙ told
 
-    run-on : (a : Answer) → t .answer ≡ a → calledAll ours (working (t .board) (lastReport report a)) (left end) ≡ runOver st samples
+    run-on : (a : Answer) → t .answer ≡ a → calledAll (ruledBy e) (working (t .board) (lastReport report a)) (left end) ≡ runOver e st samples
     run-on a told =
-        ap₂ (λ (u : Stepped) (k : Answer). calledAll ours (working (u .board) (lastReport report k)) (left end)) stepped (sym (answered a told))
-        ∙ ap (calledAll ours (working board report)) (sym first-left) ∙ g .run
+        ap₂ (λ (u : Stepped) (k : Answer). calledAll (ruledBy e) (working (u .board) (lastReport report k)) (left end)) stepped (sym (answered a told))
+        ∙ ap (calledAll (ruledBy e) (working board report)) (sym first-left) ∙ g .run
 
     history-on : (b : Bool) → callAccepted (callOf st group) ≡ b
         → acceptedAfter (cond b (group ∷ g .history) (g .history)) (left end) ≡ acceptedSamples (callsOf st samples)
@@ -116,7 +112,7 @@ module _ (st : Settings) (samples : List ℕ) where
           inside = omega arith;
           run = run-on (Answer.Reported new) told;
           history = group ∷ g .history;
-          so-far = history-on true (told-accepted ourEquipment board st group new (answered (Answer.Reported new) told));
+          so-far = history-on true (told-accepted e board st group new (answered (Answer.Reported new) told));
           counted = omega (arith, g .counted);
           few = omega (arith, g .few);
         }
@@ -127,15 +123,15 @@ module _ (st : Settings) (samples : List ℕ) where
           inside = omega arith;
           run = run-on (Answer.Refused cause) told;
           history = g .history;
-          so-far = history-on false (told-refused ourEquipment board st group cause (answered (Answer.Refused cause) told));
+          so-far = history-on false (told-refused e board st group cause (answered (Answer.Refused cause) told));
           counted = g .counted;
           few = omega (arith, g .few);
         }
 
   -- no numbers are left
   pub ended : (at : ℕ) (board : Board) (report : Report) (accepted : ℕ) → Going at board report accepted → length samples ≤ at
-      → record { board = board; report = report; accepted = accepted } ≡ ran st samples
-  unfolding ran
+      → record { board = board; report = report; accepted = accepted } ≡ ranBy e st samples
+  unfolding ranBy
   ended at board report accepted g past = ap₂ made at-end number
     where
       made : Run → ℕ → Ran
@@ -144,8 +140,8 @@ module _ (st : Settings) (samples : List ℕ) where
       none : left at ≡ []
       none = ap (callsOf st) (drop-of-length-le samples past) ∙ calls-none st
 
-      at-end : working board report ≡ runOver st samples
-      at-end = ap (calledAll ours (working board report)) (sym none) ∙ g .run
+      at-end : working board report ≡ runOver e st samples
+      at-end = ap (calledAll (ruledBy e) (working board report)) (sym none) ∙ g .run
 
       number : accepted ≡ length (acceptedSamples (callsOf st samples))
       number = sym (g .counted) ∙ ap (λ (cs : List Call). length (acceptedAfter (g .history) cs)) (sym none) ∙ ap length (g .so-far)

@@ -8,8 +8,8 @@ use Prim.Native.Nat.{ℕ, _%_, _≤_, _<_}
 use lib.Dec.{ltb}
 use lib.ListN.{length, take, drop}
 use Rattle.rules.specs.Settings.{settingsAccepted}
-use Rattle.rules.specs.Samples.{Slice, permitted, sampleAccepted}
-use Rattle.rules.specs.Regions.{ourEquipment, regionOf}
+use Rattle.rules.specs.Samples.{Slice, Equipment, permitted, sampleAccepted}
+use Rattle.rules.specs.Regions.{regionOf}
 use Rattle.rules.specs.Service.{inService}
 use Rattle.rules.specs.Reports.{reportOf}
 use Rattle.rules.specs.History.{History, historyReport}
@@ -52,8 +52,8 @@ pub record OneMore (samples : List ℕ) (x : Slice) : Type 0 where
   pub whole : Whole samples
   pub accepted : sampleAccepted x ≡ true
 
--- of the settings, the samples and the buffer: what is answered, and the buffer afterwards
-pub record ReplaysRightly (answer : Settings → List ℕ → List ℕ → Replayed) (into : Settings → List ℕ → List ℕ → List ℕ) : Type 0 where
+-- with this equipment, of the settings, the samples and the buffer: what is answered, and the buffer afterwards
+pub record ReplaysRightly (e : Equipment) (answer : Settings → List ℕ → List ℕ → Replayed) (into : Settings → List ℕ → List ℕ → List ℕ) : Type 0 where
   -- demand 1: it is refused by the first cause, the settings' before the buffer's; a refused one accepts no sample and leaves the buffer
   pub refuses : (st : Settings) (samples buffer : List ℕ)
       → answer st samples buffer .number ≡ first (settingsCauses st ++ (cause 9 (ltb (length buffer) imageLength) ∷ []))
@@ -61,22 +61,22 @@ pub record ReplaysRightly (answer : Settings → List ℕ → List ℕ → Repla
   pub keeps : (st : Settings) (samples buffer : List ℕ) → 0 < answer st samples buffer .number → into st samples buffer ≡ buffer
   -- demand 2: the report is the one that the accepted samples alone give, and they are counted
   pub shows : (st : Settings) (samples buffer : List ℕ) → Lends st buffer
-      → answer st samples buffer .report ≡ reportOf (historyReport ourEquipment st (historyOf st samples))
+      → answer st samples buffer .report ≡ reportOf (historyReport e st (historyOf st samples))
   pub counts : (st : Settings) (samples buffer : List ℕ) → Lends st buffer → answer st samples buffer .accepted ≡ length (historyOf st samples)
   -- where the recording ends in service, it is tripped with one sample more exactly when that sample's step trips
   pub trips : (st : Settings) (samples : List ℕ) (x : Slice) (buffer : List ℕ) → Lends st buffer → OneMore samples x
       → inService (answer st samples buffer .report .status) ≡ true
-      → (answer st (samples ++ x) buffer .report .status ≡ 0) ↔ ((permitted x ≡ false) ⊎ RanOut ourEquipment st (x ∷ historyOf st samples))
+      → (answer st (samples ++ x) buffer .report .status ≡ 0) ↔ ((permitted x ≡ false) ⊎ RanOut e st (x ∷ historyOf st samples))
   -- where it ends tripped, it is in service with one sample more exactly when the wait is then full, and in the continuous region
   pub returns : (st : Settings) (samples : List ℕ) (x : Slice) (buffer : List ℕ) → Lends st buffer → OneMore samples x
       → answer st samples buffer .report .status ≡ 0
-      → (inService (answer st (samples ++ x) buffer .report .status) ≡ true) ↔ WaitFull ourEquipment st (x ∷ historyOf st samples)
+      → (inService (answer st (samples ++ x) buffer .report .status) ≡ true) ↔ WaitFull e st (x ∷ historyOf st samples)
   pub returns-continuous : (st : Settings) (samples : List ℕ) (x : Slice) (buffer : List ℕ) → Lends st buffer → OneMore samples x
       → answer st samples buffer .report .status ≡ 0
-      → inService (answer st (samples ++ x) buffer .report .status) ≡ true → regionOf ourEquipment x ≡ Continuous
+      → inService (answer st (samples ++ x) buffer .report .status) ≡ true → regionOf e st x ≡ Continuous
   -- demand 3: two recordings under one sheet leave equal images exactly when no common run tells them apart
   pub images : (st : Settings) (ss ts a b : List ℕ) → Lends st a → Lends st b
-      → (take imageLength (into st ss a) ≡ take imageLength (into st ts b)) ↔ Agree ourEquipment st (historyOf st ss) (historyOf st ts)
+      → (take imageLength (into st ss a) ≡ take imageLength (into st ts b)) ↔ Agree e st (historyOf st ss) (historyOf st ts)
   -- and, of whole samples, exactly when with every common run behind them they report alike
   pub told-apart : (st : Settings) (ss ts a b : List ℕ) → Lends st a → Lends st b → Whole ss → Whole ts
       → (take imageLength (into st ss a) ≡ take imageLength (into st ts b))

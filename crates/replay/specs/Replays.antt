@@ -6,7 +6,7 @@ use mathlib.Core.List.{List, [], _∷_, map}
 use Prim.Native.Nat.{ℕ, zero, suc, _+_, _/_}
 use lib.ListN.{length, take, drop}
 use Rattle.rules.specs.Settings.{settingsCheck, settingsAccepted}
-use Rattle.rules.specs.Samples.{Slice}
+use Rattle.rules.specs.Samples.{Slice, Equipment}
 use Rattle.rules.specs.Regions.{ourEquipment}
 use Rattle.rules.specs.Refusals.{refusalNumber, settingsNumber, savedNumber}
 use Rattle.rules.specs.Images.{saveCheck, savedInto}
@@ -39,15 +39,15 @@ unfoldable pub callsOf : Settings → List ℕ → List Call
 callsOf st samples = map (callOf st) (groups samples)
 
 -- the board at work after them, from a fresh one
-abbrev pub runOver : Settings → List ℕ → Run
-runOver st samples = runOf (ruledBy ourEquipment) (callsOf st samples)
+abbrev pub runOver : Equipment → Settings → List ℕ → Run
+runOver e st samples = runOf (ruledBy e) (callsOf st samples)
 
 -- and how many samples were accepted
-unfoldable pub ran : Settings → List ℕ → Ran
-ran st samples =
+unfoldable pub ranBy : Equipment → Settings → List ℕ → Ran
+ranBy e st samples =
     record {
-      board = runOver st samples .board;
-      report = runOver st samples .report;
+      board = runOver e st samples .board;
+      report = runOver e st samples .report;
       accepted = length (acceptedSamples (callsOf st samples));
     }
 
@@ -66,14 +66,21 @@ unlessRefused (suc n) given kept = kept
 abbrev pub replayRefused : Refusal → Replayed
 replayRefused cause = record { number = refusalNumber cause; accepted = 0; report = freshReport }
 
-unfoldable pub replayed : Settings → List ℕ → List ℕ → Replayed
-replayed st samples buffer =
+unfoldable pub replayedBy : Equipment → Settings → List ℕ → List ℕ → Replayed
+replayedBy e st samples buffer =
     record {
       number = replayNumber st buffer;
       accepted = unlessRefused (replayNumber st buffer) (length (acceptedSamples (callsOf st samples))) 0;
-      report = unlessRefused (replayNumber st buffer) (runOver st samples .report) freshReport;
+      report = unlessRefused (replayNumber st buffer) (runOver e st samples .report) freshReport;
     }
 
 -- spec 9.3, 11.4: the buffer after it
-unfoldable pub replayedInto : Settings → List ℕ → List ℕ → List ℕ
-replayedInto st samples buffer = unlessRefused (replayNumber st buffer) (savedInto (runOver st samples .board) buffer) buffer
+unfoldable pub replayedIntoBy : Equipment → Settings → List ℕ → List ℕ → List ℕ
+replayedIntoBy e st samples buffer = unlessRefused (replayNumber st buffer) (savedInto (runOver e st samples .board) buffer) buffer
+
+-- with our equipment
+abbrev pub replayed : Settings → List ℕ → List ℕ → Replayed
+replayed = replayedBy ourEquipment
+
+abbrev pub replayedInto : Settings → List ℕ → List ℕ → List ℕ
+replayedInto = replayedIntoBy ourEquipment

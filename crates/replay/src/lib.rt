@@ -6,9 +6,10 @@ ghost use Prim.Native.Nat.{_+_, _-_, _≤_, min};
 ghost use lib.Dec.{ltb};
 ghost use lib.ListN.{length};
 ghost use Rattle.rules.specs.Settings.{settingsAccepted};
+ghost use Rattle.rules.specs.Regions.{equippedWith};
 ghost use Rattle.rules.specs.Images.{imageLength};
 ghost use Rattle.causes.specs.FirstCause.{cause, first, settingsCauses};
-ghost use Rattle.replay.specs.Replays.{groupLength, ran, replayRefused, replayed, replayedInto};
+ghost use Rattle.replay.specs.Replays.{groupLength, ranBy, replayRefused, replayedBy, replayedIntoBy, replayed, replayedInto};
 use image::save;
 use rules::Answer;
 use rules::Board;
@@ -51,19 +52,18 @@ fn group_end(at: usize, length: usize) -> usize
     at + GROUP_LENGTH
 }
 
-// The samples one after another, from a fresh record, under settings that are accepted. The sensing table is made once for all of them.
-fn step_all(settings: Settings, samples: &[u32]) -> Ran
-    requires { ⌜ settingsAccepted settings ≡ true ⌝ }
-    ensures { λ r. ⌜ r ≡ ran settings (now (samples .entry)) ⌝ }
+// The samples one after another, from a fresh record, under settings that are accepted and with one sensing table lent for all of them.
+fn step_all(table: &[u16], settings: Settings, samples: &[u32]) -> Ran
+    requires { ⌜ (length (now table) ≡ 4096) × (settingsAccepted settings ≡ true) ⌝ }
+    ensures { λ r. ⌜ r ≡ ranBy (equippedWith (now (table .entry))) settings (now (samples .entry)) ⌝ }
 {
-    let t = table();
     let mut board = fresh();
     let mut report = fresh_report();
     let mut accepted: usize = 0;
     let mut at: usize = 0;
     while at < samples.len() {
         let end = group_end(at, samples.len());
-        let next = step_accepted(&t, board, settings, &samples[at..end]);
+        let next = step_accepted(table, board, settings, &samples[at..end]);
         let answer = next.answer;
         board = next.board;
         at = end;
@@ -93,11 +93,12 @@ fn refused(cause: Refusal) -> Replayed
     }
 }
 
-// Replays lent samples and saves the image. Settings are checked for 2 and 3 in sheet order, then the buffer for 9; a refused replay
-// leaves the buffer as it was. A refused sample is no step and does not refuse the replay.
-pub fn replay(settings: Settings, samples: &[u32], buffer: &mut [u8]) -> Replayed
-    ensures { λ r. ⌜ (r ≡ replayed settings (now (samples .entry)) (now (buffer .entry)))
-        × (now (buffer .exit) ≡ replayedInto settings (now (samples .entry)) (now (buffer .entry))) ⌝ }
+// Replays lent samples with a sensing table lent, and saves the image. Settings are checked for 2 and 3 in sheet order, then the buffer for 9;
+// a refused replay leaves the buffer as it was. A refused sample is no step and does not refuse the replay.
+pub fn replay_by(table: &[u16], settings: Settings, samples: &[u32], buffer: &mut [u8]) -> Replayed
+    requires { ⌜ length (now table) ≡ 4096 ⌝ }
+    ensures { λ r. ⌜ (r ≡ replayedBy (equippedWith (now (table .entry))) settings (now (samples .entry)) (now (buffer .entry)))
+        × (now (buffer .exit) ≡ replayedIntoBy (equippedWith (now (table .entry))) settings (now (samples .entry)) (now (buffer .entry))) ⌝ }
     ensures { λ r. ⌜ r .number ≡ first (settingsCauses settings ++ (cause 9 (ltb (length (now (buffer .entry))) imageLength) ∷ [])) ⌝ }
 {
     match settings::check(settings) {
@@ -106,7 +107,7 @@ pub fn replay(settings: Settings, samples: &[u32], buffer: &mut [u8]) -> Replaye
             if buffer.len() < IMAGE_LENGTH {
                 return refused(Refusal::Buffer);
             }
-            let run = step_all(settings, samples);
+            let run = step_all(table, settings, samples);
             let board = run.board;
             let report = run.report;
             save(board, buffer);
@@ -117,4 +118,14 @@ pub fn replay(settings: Settings, samples: &[u32], buffer: &mut [u8]) -> Replaye
             }
         }
     }
+}
+
+// Replays lent samples with our table.
+pub fn replay(settings: Settings, samples: &[u32], buffer: &mut [u8]) -> Replayed
+    ensures { λ r. ⌜ (r ≡ replayed settings (now (samples .entry)) (now (buffer .entry)))
+        × (now (buffer .exit) ≡ replayedInto settings (now (samples .entry)) (now (buffer .entry))) ⌝ }
+    ensures { λ r. ⌜ r .number ≡ first (settingsCauses settings ++ (cause 9 (ltb (length (now (buffer .entry))) imageLength) ∷ [])) ⌝ }
+{
+    let t = table();
+    replay_by(&t, settings, samples, buffer)
 }

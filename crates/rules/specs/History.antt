@@ -51,7 +51,7 @@ climbedMore true true continuous n = cond continuous (suc n) n
 unfoldable pub climbed : Equipment → Settings → History → ℕ
 climbed e st [] = 0
 climbed e st (x ∷ h) =
-    climbedMore (serving e st h) (serving e st (x ∷ h)) (isContinuous (regionOf e x)) (climbed e st h)
+    climbedMore (serving e st h) (serving e st (x ∷ h)) (isContinuous (regionOf e st x)) (climbed e st h)
 
 -- spec 6.15: how many samples have come in service since the last one in service in momentary cessation or where it ceases to energize;
 -- none where there was no such one since the return
@@ -65,7 +65,7 @@ sinceMore true true false (some n) = some (suc n)
 unfoldable pub sinceCessation : Equipment → Settings → History → Option ℕ
 sinceCessation e st [] = none
 sinceCessation e st (x ∷ h) =
-    sinceMore (serving e st h) (serving e st (x ∷ h)) (ceases (regionOf e x)) (sinceCessation e st h)
+    sinceMore (serving e st h) (serving e st (x ∷ h)) (ceases (regionOf e st x)) (sinceCessation e st h)
 
 -- that many, up to 40; 40 where there was none
 abbrev pub recoveredSince : Option ℕ → ℕ
@@ -74,7 +74,7 @@ recoveredSince (some n) = min recoveryTop n
 
 unfoldable pub historyStatus : Equipment → Settings → History → ℕ
 historyStatus e st [] = 0
-historyStatus e st (x ∷ h) = statusOf (serving e st (x ∷ h)) (regionOf e x) (leb (st .ramp) (climbed e st (x ∷ h)))
+historyStatus e st (x ∷ h) = statusOf (serving e st (x ∷ h)) (regionOf e st x) (leb (st .ramp) (climbed e st (x ∷ h)))
 
 unfoldable pub historyShare : Equipment → Settings → History → ℕ
 historyShare e st h = shareOf st (min (st .ramp) (climbed e st h))

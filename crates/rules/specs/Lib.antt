@@ -7,6 +7,7 @@ pub mod Counters
 pub mod Regions
 pub mod Curves
 pub mod Droop
+pub mod Statuses
 pub mod Service
 pub mod Reports
 pub mod Records

@@ -54,7 +54,7 @@ readAs e st b =
 -- spec 6.13 to 7.8: the record, from: the nine counters, in service, the ramp count, the recovery count, the held power
 unfoldable pub settled : Equipment → Settings → Slice → List ℕ → Bool → ℕ → ℕ → ℕ → Board
 settled e st x counters on ramp recovery held =
-    let status = statusOf on (regionOf e x) (eqb ramp (st .ramp)) in
+    let status = statusOf on (regionOf e st x) (eqb ramp (st .ramp)) in
     record {
       status = status;
       counters = counters;
@@ -74,8 +74,8 @@ ruled e st x b =
     let ready = full (readyRule e st) (getD counters 8 0) in
     let was = inService (b .status) in
     let on = serves was (permitted x) trip ready in
-    settled e st x counters on (ramped was on (isContinuous (regionOf e x)) (st .ramp) (b .ramp))
-    (recovering was on (ceases (regionOf e x)) (b .recovery))
+    settled e st x counters on (ramped was on (isContinuous (regionOf e st x)) (st .ramp) (b .ramp))
+    (recovering was on (ceases (regionOf e st x)) (b .recovery))
     (heldAfter (b .side) (sideAfter on (frequency x)) (b .held) (b .watts))
 
 -- what an accepted sample makes of a lent record

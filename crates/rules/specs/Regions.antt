@@ -8,6 +8,7 @@ use lib.ListN.{getD}
 use Rattle.rules.specs.Tests.{within}
 use Rattle.rules.specs.Sensing.{voltage}
 use Rattle.rules.specs.Samples.{Slice, Equipment, frequency, lowest, highest}
+use Rattle.rules.specs.declared.Settings.{Settings}
 use Rattle.rules.specs.declared.Region.{Region}
 use Rattle.rules.specs.declared.Region.the-variants.{Continuous, Mandatory, Momentary, Cease}
 
@@ -37,9 +38,13 @@ rank Cease = 3
 abbrev pub worse : Region → Region → Region
 worse a b = cond (leb (rank b) (rank a)) a b
 
+-- the region of a voltage for a board under these settings; today the settings have no say in it
+abbrev pub regionIn : Equipment → Settings → ℕ → Region
+regionIn e st v = e .region v
+
 -- spec 6.9: the worst of the three
-unfoldable pub regionOf : Equipment → Slice → Region
-regionOf e x = worse (e .region (lowest e x)) (worse (e .region (highest e x)) (frequencyRegion (frequency x)))
+unfoldable pub regionOf : Equipment → Settings → Slice → Region
+regionOf e st x = worse (regionIn e st (lowest e x)) (worse (regionIn e st (highest e x)) (frequencyRegion (frequency x)))
 
 abbrev pub isContinuous : Region → Bool
 isContinuous Continuous = true

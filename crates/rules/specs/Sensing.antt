@@ -20,6 +20,10 @@ lastCode = 4095
 unfoldable pub voltage : ℕ → ℕ
 voltage code = largest (λ v. leb (v * v) (code * 100000)) 20236
 
--- spec 2.4: a code above the table is refused
-unfoldable pub sensed : ℕ → Sensed
-sensed code = cond (leb code lastCode) (Sensed.Volts (voltage code)) (Sensed.Refused Code)
+-- spec 2.4: what a code gives by a table, the voltage of each code; a code above the table is refused
+unfoldable pub sensedBy : (ℕ → ℕ) → ℕ → Sensed
+sensedBy volts code = cond (leb code lastCode) (Sensed.Volts (volts code)) (Sensed.Refused Code)
+
+-- by ours
+abbrev pub sensed : ℕ → Sensed
+sensed = sensedBy voltage

@@ -5,7 +5,7 @@ use mathlib.Core.List.{List, [], _∷_, _++_, map}
 use Prim.Native.Nat.{ℕ, suc, _*_, _/_, min}
 use lib.Dec.{eqb}
 use lib.IntN.{ℤ, pos, natAbs}
-use Rattle.rules.specs.Tests.{within}
+use Rattle.rules.specs.Statuses.{statusAt}
 use Rattle.rules.specs.Samples.{Slice, Equipment, frequency, available, operatorLimit, mean}
 use Rattle.rules.specs.Curves.{curve, nameplate}
 use Rattle.rules.specs.Droop.{noSide, sideOf, drooped}
@@ -24,7 +24,7 @@ ramped was false continuous length n = 0
 ramped false true continuous length n = 0
 ramped true true continuous length n = cond continuous (min length (suc n)) n
 
--- spec 6.13: the status, from: in service, the region, the ramp count full
+-- spec 6.13: the status, by its place in `statuses`, from: in service, the region, the ramp count full
 abbrev pub statusOf : Bool → Region → Bool → ℕ
 statusOf false region full = 0  -- tripped
 statusOf true Continuous false = 1  -- entering
@@ -35,11 +35,15 @@ statusOf true Cease full = 5  -- cease to energize
 
 -- in service; a status that spec 6.13 does not name is read as tripped (spec 5.4)
 abbrev pub inService : ℕ → Bool
-inService status = within 1 5 status
+inService status = statusAt status .service
 
--- spec 7.3, 7.5, 7.6: statuses 1 to 3 give power; tripped, in momentary cessation and where it ceases to energize there is none
+-- spec 7.3, 7.5, 7.6: it gives power; tripped, in momentary cessation and where it ceases to energize there is none
 abbrev pub exports : ℕ → Bool
-exports status = within 1 3 status
+exports status = statusAt status .power
+
+-- in service without power: momentary cessation or cease to energize
+abbrev pub withoutPower : ℕ → Bool
+withoutPower status = inService status && not (exports status)
 
 -- spec 6.14: the share that the ramp lets through
 abbrev pub shareOf : Settings → ℕ → ℕ
@@ -111,7 +115,7 @@ least (n ∷ m ∷ ns) = min n (least (m ∷ ns))
 abbrev pub leftBy : List Limited → ℕ
 leftBy limits = least (map (λ l. l .watts) limits)
 
--- spec 7.5, 7.6, 7.8: in statuses 1 to 3 the least that a limit leaves
+-- spec 7.5, 7.6, 7.8: in a status that gives power the least that a limit leaves
 unfoldable pub wattsOf : Equipment → Settings → Slice → ℕ → ℕ → ℕ → ℕ → ℕ
 wattsOf e st x status share recovery held =
     cond (exports status) (leftBy (powerLimits e st x share recovery held (varsOf e st x status))) 0

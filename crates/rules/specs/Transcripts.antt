@@ -10,6 +10,7 @@ use lib.IntN.{ℤ, pos, natAbs}
 use lib.ListN.{take, drop, getD}
 use Rattle.rules.specs.Refusals.{refusalNumber}
 use Rattle.rules.specs.Samples.{Equipment}
+use Rattle.rules.specs.Statuses.{statuses}
 use Rattle.rules.specs.Records.{fresh, stepOf}
 use Rattle.rules.specs.Text.{bytes, feed, signedDecimal}
 use Rattle.rules.specs.Forms.{sampleForm, numbersOf}
@@ -27,7 +28,7 @@ use Rattle.rules.specs.declared.Stepped.{Stepped}
 
 -- spec 6.13: the status words, by number
 abbrev pub statusWords : List String
-statusWords = "tripped" ∷ "entering" ∷ "continuous" ∷ "mandatory" ∷ "momentary" ∷ "cease" ∷ []
+statusWords = map (λ s. s .word) statuses
 
 -- the lowest k bits of a number as digits, the highest first
 unfoldable pub bitDigits : ℕ → ℕ → List ℕ

@@ -12,6 +12,9 @@ pub const LINE_ROOM: usize = 128;
 // How many bytes an image has: no shorter buffer takes it; `imageLength` in specs/.
 pub const IMAGE_LENGTH: usize = 49;
 
+// The last status; `topStatus` in specs/.
+pub const TOP_STATUS: u8 = 5;
+
 // How many steps it takes until power is back after a cessation; `recoveryTop` in specs/.
 pub const RECOVERY_TOP: u8 = 40;
 

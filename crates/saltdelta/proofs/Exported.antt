@@ -53,7 +53,8 @@ stored : (before : Report) (st : Settings) (samples buffer : List ℕ) → Lends
 unfolding replayReport
 stored before st samples buffer l = given (replayNumber st buffer) _ _ (number-0 st samples buffer (l .accepted) (l .room))
 
-pub exported-replay : Sound ourEquipment → (before : Report) → ReplaysRightly (exportedReplay before) replayedInto
+pub exported-replay : Sound ourEquipment → (before : Report) → ReplaysRightly ourEquipment (exportedReplay before) replayedInto
 unfolding replayAnswer
 exported-replay sound before =
-    as-rightly replayed (exportedReplay before) replayedInto (λ st samples buffer. refl) (λ st samples buffer. refl) (stored before) (replays-rightly sound)
+    as-rightly ourEquipment replayed (exportedReplay before) replayedInto (λ st samples buffer. refl) (λ st samples buffer. refl) (stored before)
+    (replays-rightly ourEquipment sound)

@@ -25,7 +25,7 @@ use Rattle.basics.proofs.Refusals.{number-bounds, none-refused}
 use Rattle.laws.proofs.FirstCause.{refuses-rightly}
 use Rattle.laws.proofs.SheetCauses.{sheets-refused-rightly}
 use Rattle.carryover.proofs.Carrying.{refused-rightly}
-use Rattle.replay.specs.Replays.{replayNumber, replayed, replayedInto}
+use Rattle.replay.specs.Replays.{replayNumber, replayedBy, replayedInto}
 use Rattle.replay.proofs.Answering.{kept, number-first}
 use Rattle.replay.proofs.Demanded.{no-samples, buffer-kept}
 use Rattle.saltdelta.specs.Answers.{recordAfter, reportAfter, reportOr, stepNumber, sheetAnswer, settingsAfter, settingsOr, replayAnswer, replayReport}
@@ -85,20 +85,20 @@ module _ (s : List ℕ) where
 
 module _ (st : Settings) (samples buffer : List ℕ) where
   replay-cause : replayAnswer st samples buffer .number ≡ first (settingsCauses st ++ (cause 9 (ltb (L.length buffer) imageLength) ∷ []))
-  unfolding replayAnswer replayed
+  unfolding replayAnswer replayedBy
   replay-cause = number-first st buffer
 
   none-accepted : 0 < replayAnswer st samples buffer .number → replayAnswer st samples buffer .accepted ≡ 0
-  unfolding replayAnswer replayed
-  none-accepted h = no-samples st samples buffer h
+  unfolding replayAnswer replayedBy
+  none-accepted h = no-samples ourEquipment st samples buffer h
 
   last-report-kept : (before : Report) → 0 < replayAnswer st samples buffer .number → replayReport before st samples buffer ≡ before
-  unfolding replayAnswer replayed replayReport
+  unfolding replayAnswer replayedBy replayReport
   last-report-kept before h = kept (replayNumber st buffer) _ before h
 
   image-kept : 0 < replayAnswer st samples buffer .number → replayedInto st samples buffer ≡ buffer
-  unfolding replayAnswer replayed
-  image-kept h = buffer-kept st samples buffer h
+  unfolding replayAnswer replayedBy
+  image-kept h = buffer-kept ourEquipment st samples buffer h
 
 pub exported-refuse : ExportedRefuse
 exported-refuse =

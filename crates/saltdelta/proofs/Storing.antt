@@ -14,7 +14,7 @@ use Rattle.rules.specs.declared.Report.{Report}
 use Rattle.rules.specs.declared.Answer.{Answer}
 use Rattle.rules.specs.declared.Settings.{Settings}
 use Rattle.causes.specs.Calls.{freshReport}
-use Rattle.replay.specs.Replays.{replayNumber, replayed, replayedInto}
+use Rattle.replay.specs.Replays.{replayNumber, replayedBy, replayed, replayedInto}
 use Rattle.replay.proofs.Answering.{kept, given}
 use Rattle.saltdelta.specs.Answers.{recordAfter, reportAfter, reportOr, stepNumber, sheetAnswer, settingsAfter, replayAnswer, replayReport}
 use Rattle.saltdelta.specs.Explained.{explainedFresh, explainedAfter}
@@ -117,7 +117,7 @@ module _ (st : Settings) (samples buffer : List ℕ) where
       (report ≡ replayReport before st samples buffer) × (bytes ≡ replayedInto st samples buffer) × (answer ≡ replayAnswer st samples buffer)
 
   numbered : (r : ReplayCall) (bytes : List ℕ) → ReplaySays r bytes → r .answer .number ≡ replayNumber st buffer
-  unfolding replayAnswer replayed
+  unfolding replayAnswer replayedBy
   numbered r bytes says = ap (λ (a : ReplayAnswer). a .number) (says .1)
 
   pub replay-stored : (before : Report) (r : ReplayCall) (bytes : List ℕ) → ReplaySays r bytes → r .answer .number ≡ 0

@@ -144,7 +144,7 @@ pub record Promised (s : Settings) (r : Reading) (b : Board) (f : Found) : Type 
 
 module _ (e : Equipment) (s : Settings) (x : Slice) (r : Reading) (regions : e .region ≡ voltageRegion) (q : readingOf e x ≡ r)
     (b : Board) (nine : length (b .counters) ≡ 9) (f : Found) (p : Promised s r b f) where
-  pub region-found : regionOf e x ≡ f .area
+  pub region-found : regionOf e s x ≡ f .area
   unfolding regionOf
   region-found = rw regions (ap regionAt q ∙ sym (p .place))
 
@@ -173,11 +173,11 @@ module _ (e : Equipment) (s : Settings) (x : Slice) (r : Reading) (regions : e .
       p .after trips ready (bits-found ∙ ap (packedAfter 0) split)
       ∙ ap (λ (y : Reading). serves (f .was) (y .permit) (any trips) ready) (sym q)
 
-  ramp-is : f .ramp ≡ ramped (f .was) (f .on) (isContinuous (regionOf e x)) (s .ramp) (readAs e s b .ramp)
+  ramp-is : f .ramp ≡ ramped (f .was) (f .on) (isContinuous (regionOf e s x)) (s .ramp) (readAs e s b .ramp)
   unfolding readAs
   ramp-is = p .climb ∙ rw (p .steady, region-found, p .before)
 
-  recovery-is : f .recovery ≡ recovering (f .was) (f .on) (ceases (regionOf e x)) (readAs e s b .recovery)
+  recovery-is : f .recovery ≡ recovering (f .was) (f .on) (ceases (regionOf e s x)) (readAs e s b .recovery)
   unfolding readAs
   recovery-is = p .recovers ∙ rw (p .cessation, region-found)
 

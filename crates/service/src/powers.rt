@@ -5,6 +5,7 @@ ghost use lib.IntN.{natAbs};
 ghost use Rattle.rules.specs.Samples.{Slice, Equipment};
 ghost use Rattle.rules.specs.Service.{varsOf, firstLimits, leftBy, wattsOf};
 ghost use Rattle.readings.specs.Readings.{readingOf, Exportable};
+use crate::statuses::gives_power;
 use droop::side_of;
 use droop::within_droop;
 use numbers::smaller;
@@ -34,7 +35,7 @@ fn first_limits(r: Reading, share: u32, held: u16) -> u32
     within_droop(r.frequency, held, r.available)
 }
 
-// What a board in this status gives. In statuses 1 to 3 the curves are read at the mean voltage, and watts are the least that a limit
+// What a board in this status gives. In one that gives power the curves are read at the mean voltage, and watts are the least that a limit
 // leaves, taken in their standing order, one to a line; in others both powers are 0.
 pub fn powers_in(r: Reading, s: Settings, status: u8, share: u32, recovery: u8, held: u16) -> Powers
     requires { ⌜ Exportable r s ⌝ }
@@ -42,10 +43,7 @@ pub fn powers_in(r: Reading, s: Settings, status: u8, share: u32, recovery: u8, 
     ensures { λ p. ⌜ ((e : Equipment) (x : Slice) → readingOf e x ≡ r → p .watts ≡ wattsOf e s x status share recovery held) ⌝ }
     ensures { λ p. ⌜ (p .watts ≤ 10000) × (natAbs (p .vars) ≤ 10000) ⌝ }
 {
-    if status < 1 {
-        return Powers { watts: 0, vars: 0 };
-    }
-    if 3 < status {
+    if !gives_power(status) {
         return Powers { watts: 0, vars: 0 };
     }
     let v = r.sum / 3;

@@ -3,12 +3,13 @@ ghost use mathlib.Core.Path.{_≡_};
 ghost use mathlib.Core.Bool.{Bool, true, cond};
 ghost use mathlib.Core.List.{List, [], _∷_, _++_};
 ghost use Prim.Native.Nat.{_*_, _/_, _≤_, min};
+ghost use lib.ListN.{length};
 ghost use Rattle.rules.specs.Tests.{any};
 ghost use Rattle.rules.specs.Settings.{settingsAccepted};
 ghost use Rattle.rules.specs.Samples.{Slice, Equipment};
 ghost use Rattle.rules.specs.Regions.{voltageRegion, regionOf, isContinuous, ourEquipment, equippedWith};
 ghost use Rattle.rules.specs.Droop.{sideAfter};
-ghost use Rattle.rules.specs.Service.{serves, ramped, statusOf, inService};
+ghost use Rattle.rules.specs.Service.{serves, ramped, statusOf};
 ghost use Rattle.rules.specs.Refusals.{answerNumber};
 ghost use Rattle.rules.specs.Reports.{packedAfter};
 ghost use Rattle.rules.specs.Records.{fresh, settled, next, stepOf};
@@ -17,6 +18,7 @@ ghost use Rattle.readings.specs.Readings.{readingOf, Exportable};
 ghost use Rattle.causes.specs.Calls.{freshReport};
 ghost use Rattle.service.specs.Steps.{Bits, reported};
 use crate::powers::powers_in;
+use crate::statuses::in_service;
 use droop::held_after;
 use droop::side_after;
 use readings::reading::Reading;
@@ -69,16 +71,6 @@ pub fn fresh_report() -> Report
         watts: 0,
         vars: 0,
     }
-}
-
-// An unknown status is read as tripped.
-pub fn in_service(status: u8) -> bool
-    ensures { λ r. ⌜ r ≡ inService status ⌝ }
-{
-    if status < 1 {
-        return false;
-    }
-    status <= 5
 }
 
 // Spec 6.10, 6.12: in service after the step. The lowest of the nine bits is ready, the others are the limits'.
@@ -167,7 +159,7 @@ fn settle(
     held: u16,
 ) -> Stepped
     requires { ⌜ (Exportable r s) × (ramp ≤ s .ramp) × (side ≡ sideAfter on (r .frequency)) ⌝ }
-    ensures { λ t. ⌜ ((e : Equipment) (x : Slice) → readingOf e x ≡ r → regionOf e x ≡ area → Bits e s (c .n) (c .bits)
+    ensures { λ t. ⌜ ((e : Equipment) (x : Slice) → readingOf e x ≡ r → regionOf e s x ≡ area → Bits e s (c .n) (c .bits)
         → t ≡ reported e s (settled e s x (c .n) on ramp recovery held)) ⌝ }
 {
     let length = s.ramp;
@@ -221,8 +213,8 @@ fn advance(b: Board, s: Settings, r: Reading) -> Stepped
 }
 
 // The step under settings that are accepted and with a sensing table lent: only the sample is checked.
-pub fn step_accepted(table: &[u16; 4096], b: Board, s: Settings, x: &[u32]) -> Stepped
-    requires { ⌜ settingsAccepted s ≡ true ⌝ }
+pub fn step_accepted(table: &[u16], b: Board, s: Settings, x: &[u32]) -> Stepped
+    requires { ⌜ (length (now table) ≡ 4096) × (settingsAccepted s ≡ true) ⌝ }
     ensures { λ t. ⌜ t ≡ stepOf (equippedWith (now (table .entry))) b s (now (x .entry)) ⌝ }
 {
     match check(x) {
@@ -234,9 +226,11 @@ pub fn step_accepted(table: &[u16; 4096], b: Board, s: Settings, x: &[u32]) -> S
     }
 }
 
-// The step: settings are checked for 2 and 3 in sheet order, then the slice for 8, 4, 5, 6, 7; a refused call changes nothing.
-pub fn step(b: Board, s: Settings, x: &[u32]) -> Stepped
-    ensures { λ t. ⌜ t ≡ stepOf ourEquipment b s (now (x .entry)) ⌝ }
+// The step with a sensing table lent: settings are checked for 2 and 3 in sheet order, then the slice for 8, 4, 5, 6, 7; a refused call changes
+// nothing.
+pub fn step_by(table: &[u16], b: Board, s: Settings, x: &[u32]) -> Stepped
+    requires { ⌜ length (now table) ≡ 4096 ⌝ }
+    ensures { λ t. ⌜ t ≡ stepOf (equippedWith (now (table .entry))) b s (now (x .entry)) ⌝ }
     ensures { λ t. ⌜ answerNumber (t .answer) ≡ first (settingsCauses s ++ sampleCauses (now (x .entry))) ⌝ }
 {
     match settings::check(s) {
@@ -244,9 +238,15 @@ pub fn step(b: Board, s: Settings, x: &[u32]) -> Stepped
             board: b,
             answer: Answer::Refused(cause),
         },
-        SettingsCheck::Accepted => {
-            let t = table();
-            step_accepted(&t, b, s, x)
-        }
+        SettingsCheck::Accepted => step_accepted(table, b, s, x),
     }
+}
+
+// The step, with our table.
+pub fn step(b: Board, s: Settings, x: &[u32]) -> Stepped
+    ensures { λ t. ⌜ t ≡ stepOf ourEquipment b s (now (x .entry)) ⌝ }
+    ensures { λ t. ⌜ answerNumber (t .answer) ≡ first (settingsCauses s ++ sampleCauses (now (x .entry))) ⌝ }
+{
+    let t = table();
+    step_by(&t, b, s, x)
 }

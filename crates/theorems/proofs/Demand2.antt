@@ -9,7 +9,6 @@ use native.Mathlib.Nat.{min-zero, zero-div}
 use native.Mathlib.Omega.{arith}
 use lib.IntN.{pos}
 use borrow.Author.Tests.{lt-leb}
-use Rattle.rules.specs.Tests.{within}
 use Rattle.rules.specs.Settings.{settingsCheck, settingsPassed, settingsAccepted, limitAt}
 use Rattle.rules.specs.Samples.{Slice, Equipment, sampleCheck, sampleAccepted}
 use Rattle.rules.specs.Samples as samples
@@ -91,7 +90,6 @@ module _ (e : Equipment) (st : Settings) where
   service-of h = ap inService (sym (status-is e st h)) ∙ service-is e st h
 
   pub tripped-of : (h : History) → historyStatus e st h ≡ 0 → serving e st h ≡ false
-  unfolding within
   tripped-of h p = sym (service-of h) ∙ ap inService p
 
   pub tripped-status : (h : History) → serving e st h ≡ false → historyStatus e st h ≡ 0

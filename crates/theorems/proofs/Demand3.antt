@@ -14,6 +14,7 @@ use mir.Syntax.{w16}
 use mir.Val.{SFits}
 use borrow.Author.Tests.{le-leb}
 use Rattle.rules.specs.Settings.{rows, settingsAccepted}
+use Rattle.rules.specs.Statuses.{topStatus}
 use Rattle.rules.specs.Samples.{Slice, Equipment, mean, sampleAccepted}
 use Rattle.rules.specs.Counters.{Rule, rules}
 use Rattle.rules.specs.Curves.{curve}
@@ -66,12 +67,12 @@ saved-image b nine buffer room =
     rw (le-leb imageLength (length buffer) room) (take-at (image b) (drop imageLength buffer) imageLength (image-length b nine))
 
 module _ (e : Equipment) (st : Settings) where
-  pub status-top : (h : History) → historyStatus e st h ≤ 5
+  pub status-top : (h : History) → historyStatus e st h ≤ topStatus
   unfolding historyStatus
   status-top [] = lit≤ tt
-  status-top (x ∷ h) = by (serving e st (x ∷ h)) (regionOf e x) _
+  status-top (x ∷ h) = by (serving e st (x ∷ h)) (regionOf e st x) _
     where
-      by : (on : Bool) (r : Region) (full : Bool) → statusOf on r full ≤ 5
+      by : (on : Bool) (r : Region) (full : Bool) → statusOf on r full ≤ topStatus
       by false r full = lit≤ tt
       by true Continuous false = lit≤ tt
       by true Continuous true = lit≤ tt

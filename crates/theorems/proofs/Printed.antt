@@ -14,6 +14,7 @@ use lib.Seq.{ext-getD}
 use Rattle.rules.specs.Text.{bytes}
 use Rattle.rules.specs.Forms.{sampleForm, numbersOf}
 use Rattle.rules.specs.Settings.{settingsAccepted}
+use Rattle.rules.specs.Statuses.{topStatus}
 use Rattle.rules.specs.Samples.{Slice, Equipment, permitted, sampleCheck, sampleAccepted}
 use Rattle.rules.specs.Regions.{regionOf}
 use Rattle.rules.specs.Refusals.{refusalNumber, sampleNumber, answerNumber}
@@ -56,7 +57,7 @@ or-true false f = absurd (f refl)
 abbrev wordOf : ℕ → List ℕ
 wordOf status = bytes (getD statusWords status "")
 
-word-ends : (s : ℕ) → s ≤ 5 → (rest : List ℕ) → untilSpace (wordOf s ++ (bytes " " ++ rest)) ≡ wordOf s
+word-ends : (s : ℕ) → s ≤ topStatus → (rest : List ℕ) → untilSpace (wordOf s ++ (bytes " " ++ rest)) ≡ wordOf s
 unfolding untilSpace
 word-ends zero h rest = refl
 word-ends (suc zero) h rest = refl
@@ -74,7 +75,7 @@ numberOf word =
     (cond (eqb (getD word 1 0) 111) (cond (eqb (getD word 0 0) 99) 2 4)
     (cond (eqb (getD word 0 0) 109) 3 5)))
 
-number-back : (s : ℕ) → s ≤ 5 → numberOf (wordOf s) ≡ s
+number-back : (s : ℕ) → s ≤ topStatus → numberOf (wordOf s) ≡ s
 number-back zero h = refl
 number-back (suc zero) h = refl
 number-back (suc (suc zero)) h = refl
@@ -84,14 +85,14 @@ number-back (suc (suc (suc (suc (suc zero))))) h = refl
 number-back (suc (suc (suc (suc (suc (suc s)))))) h = absurd (omega arith)
 
 -- no two statuses have one word
-words-differ : (s t : ℕ) → s ≤ 5 → t ≤ 5 → wordOf s ≡ wordOf t → s ≡ t
+words-differ : (s t : ℕ) → s ≤ topStatus → t ≤ topStatus → wordOf s ≡ wordOf t → s ≡ t
 words-differ s t h g e = sym (number-back s h) ∙ ap numberOf e ∙ number-back t g
 
-report-word : (r : Report) → r .status ≤ 5 → printedStatus (reportLine r) ≡ wordOf (r .status)
+report-word : (r : Report) → r .status ≤ topStatus → printedStatus (reportLine r) ≡ wordOf (r .status)
 unfolding reportLine untilSpace afterSpace
 report-word r h = word-ends (r .status) h _
 
-pub words-tell : (r q : Report) → r .status ≤ 5 → q .status ≤ 5 → (printedStatus (reportLine r) ≡ printedStatus (reportLine q)) ↔ (r .status ≡ q .status)
+pub words-tell : (r q : Report) → r .status ≤ topStatus → q .status ≤ topStatus → (printedStatus (reportLine r) ≡ printedStatus (reportLine q)) ↔ (r .status ≡ q .status)
 words-tell r q h g = (
   (λ e. words-differ (r .status) (q .status) h g (sym (report-word r h) ∙ e ∙ report-word q g)),
   (λ e. report-word r h ∙ ap wordOf e ∙ sym (report-word q g)),

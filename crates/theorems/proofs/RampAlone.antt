@@ -50,11 +50,11 @@ settled-alike e st x counters on r q recovery held full share = ap₂ made (sym 
     made : Bool → ℕ → Board
     made f s =
         record {
-          status = statusOf on (regionOf e x) f;
+          status = statusOf on (regionOf e st x) f;
           counters = counters;
           ramp = q;
-          watts = wattsOf e st x (statusOf on (regionOf e x) f) s recovery held;
-          vars = varsOf e st x (statusOf on (regionOf e x) f);
+          watts = wattsOf e st x (statusOf on (regionOf e st x) f) s recovery held;
+          vars = varsOf e st x (statusOf on (regionOf e st x) f);
           recovery = recovery;
           side = sideAfter on (frequency x);
           held = held;
@@ -88,13 +88,13 @@ module _ (e : Equipment) (st : Settings) (low : 1 ≤ st .ramp) where
   -- one step more, whatever the sample: again they differ in the ramp count alone, and their shares agree for a step less
   after-top : (x : Slice) (r : ℕ) (b : Board) → after x r b .ramp ≤ st .ramp
   unfolding next ruled readAs settled
-  after-top x r b = ramp-top (was b) (on x b) (isContinuous (regionOf e x)) (st .ramp) _ (read-top (inService (b .status)) (st .ramp) r)
+  after-top x r b = ramp-top (was b) (on x b) (isContinuous (regionOf e st x)) (st .ramp) _ (read-top (inService (b .status)) (st .ramp) r)
 
   after-agree : (x : Slice) (r q most : ℕ) (b : Board) → SharesAgree (suc most) (st .ramp) r q
       → SharesAgree most (st .ramp) (after x r b .ramp) (after x q b .ramp)
   unfolding next ruled readAs settled
   after-agree x r q most b f =
-      ramped-agree (was b) (on x b) (isContinuous (regionOf e x)) most (st .ramp) _ _ (read-agree (inService (b .status)) (suc most) (st .ramp) r q f)
+      ramped-agree (was b) (on x b) (isContinuous (regionOf e st x)) most (st .ramp) _ _ (read-agree (inService (b .status)) (suc most) (st .ramp) r q f)
 
   after-alike : (x : Slice) (r q most : ℕ) (b : Board) → SharesAgree most (st .ramp) (after x r b .ramp) (after x q b .ramp)
       → after x q b ≡ withRamp (after x q b .ramp) (after x r b)

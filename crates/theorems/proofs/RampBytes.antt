@@ -6,6 +6,7 @@ use Prim.Native.Nat.{ℕ, _+_, _*_, _%_, _≤_, min}
 use native.Mathlib.Omega.{arith}
 use lib.ListN.{length, length-append, take, drop, getD}
 use lib.Seq.{take-at, drop-at}
+use Rattle.rules.specs.Statuses.{topStatus}
 use Rattle.rules.specs.Samples.{Equipment}
 use Rattle.rules.specs.History.{History, climbed}
 use Rattle.rules.specs.Images.{numberBytes, Field, field, fieldBytes, twosComplement, imageFields, image}
@@ -59,7 +60,7 @@ module _ (b : Board) (nine : length (b .counters) ≡ 9) where
       ∙ drop-at front ramp-part 37 front-long
 
 -- images that are equal before the ramp count are of one status
-pub same-status : (b c : Board) → b .status ≤ 5 → c .status ≤ 5 → take 37 (image b) ≡ take 37 (image c) → b .status ≡ c .status
+pub same-status : (b c : Board) → b .status ≤ topStatus → c .status ≤ topStatus → take 37 (image b) ≡ take 37 (image c) → b .status ≡ c .status
 unfolding image imageFields fieldBytes numberBytes
 same-status b c hb hc e =
     let s : b .status % 256 ≡ c .status % 256 = ap (λ (l : List ℕ). getD l 0 0) e in

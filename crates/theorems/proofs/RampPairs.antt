@@ -11,6 +11,7 @@ use native.Mathlib.Omega.{arith}
 use lib.ListN.{length, replicate, length-replicate}
 use borrow.Author.Tests.{le-leb}
 use Rattle.rules.specs.Settings.{settingsAccepted, limitAt}
+use Rattle.rules.specs.Statuses.{topStatus}
 use Rattle.rules.specs.Samples.{Slice, Equipment}
 use Rattle.rules.specs.Counters.{Kind, kinds, limitRules, readyRule, rules}
 use Rattle.rules.specs.Regions.{regionOf, ceases}
@@ -46,7 +47,7 @@ module _ (e : Equipment) (sound : Sound e) (st : Settings) (ok : settingsAccepte
       let o : serving e st h ≡ serving e st g = sym (service-is e st h) ∙ ap inService status ∙ service-is e st g in
       ramps-told e sound st ok h g o (counts-differ e st h g r)
     where
-      top : (k : History) → recordOf e st k .status ≤ 5
+      top : (k : History) → recordOf e st k .status ≤ topStatus
       top k = omega (arith, status-is e st k, status-top e st k)
 
 pub ramps-told-within-five : (e : Equipment) → Sound e → RampsTold e (ruledBy e) 5
@@ -76,7 +77,7 @@ module _ (e : Equipment) (sound : Sound e) (st : Settings) (ok : settingsAccepte
   unfolding sinceCessation
   none-more h p = rw (p, no-cessation) (by (serving e st h) (serving e st (nominal ∷ h)))
     where
-      no-cessation : ceases (regionOf e nominal) ≡ false
+      no-cessation : ceases (regionOf e st nominal) ≡ false
       no-cessation = ap ceases (in-range-continuous e st sound ok nominal (calm-in-range e sound st ok))
 
       by : (was on : Bool) → sinceMore was on false none ≡ none

@@ -30,7 +30,7 @@ use Rattle.theorems.proofs.Probes.{accepted-run, calm, calm-accepted, c
 module _ (e : Equipment) (sound : Sound e) (st : Settings) (ok : settingsAccepted st ≡ true) where
   -- ---- a run at nominal keeps a board in service, and each of its samples counts for the ramp
 
-  calm-region : isContinuous (regionOf e (calm e sound)) ≡ true
+  calm-region : isContinuous (regionOf e st (calm e sound)) ≡ true
   calm-region = ap isContinuous (in-range-continuous e st sound ok (calm e sound) (calm-in-range e sound st ok))
 
   calm-trips-none : (h : History) (i : ℕ) (ks : List Kind) → LimitsIn st i ks → any (map (complete (calm e sound ∷ h)) (limitRules e st i ks)) ≡ false

@@ -6,18 +6,16 @@ use mathlib.Core.List.{List, [], _∷_, map}
 use Prim.Native.Nat.{ℕ, suc, _+_, _≤_, _<_, min}
 use native.Mathlib.Omega.{arith}
 use lib.ListN.{length, getD, drop}
-use Rattle.rules.specs.Tests.{within}
 use Rattle.rules.specs.Settings.{settingsAccepted}
 use Rattle.rules.specs.Samples.{Slice, Equipment, available, sampleAccepted}
 use Rattle.rules.specs.Regions.{regionOf, ceases}
-use Rattle.rules.specs.Service.{statusOf, exports, recoveryTop, recovering, recoveryLimit, varsOf, cessationRecovery, leaves, wattsOf}
+use Rattle.rules.specs.Service.{statusOf, exports, withoutPower, recoveryTop, recovering, recoveryLimit, varsOf, cessationRecovery, leaves, wattsOf}
 use Rattle.rules.specs.History.{History, followedBy, serving, sinceCessation, historyStatus, historyShare, historyRecovery, wattsHolding, historyHeld, historyWatts, historyVars, historyReport}
 use Rattle.rules.specs.declared.Settings.{Settings}
 use Rattle.rules.specs.declared.Region.{Region}
 use Rattle.rules.specs.declared.Region.the-variants.{Continuous, Mandatory, Momentary, Cease}
 use Rattle.claims.specs.Sound.{Sound}
 use Rattle.claims.specs.Recovery.{GivesPower, Ceased, leftByOthers, RestoresPower}
-use Rattle.basics.proofs.Bools.{within-true}
 use Rattle.laws.proofs.Accepted.{sample-right}
 use Rattle.theorems.proofs.Demand2.{service-of, tripped-of}
 use Rattle.theorems.proofs.Trip.{return-continuous}
@@ -28,19 +26,18 @@ use Rattle.laws.proofs.Events.{recovery-top, watts-within, left-available, stan
 
 -- one that gives power: in service, outside momentary cessation and cease to energize
 giving-region : (on : Bool) (r : Region) (full : Bool) → exports (statusOf on r full) ≡ true → (on ≡ true) × (ceases r ≡ false)
-unfolding within
 giving-region false r full p = absurd (false≢true p)
 giving-region true Continuous full p = (refl, refl)
 giving-region true Mandatory full p = (refl, refl)
 giving-region true Momentary full p = absurd (false≢true p)
 giving-region true Cease full p = absurd (false≢true p)
 
--- one from 4 on: in service, in one of them
-ceased-region : (on : Bool) (r : Region) (full : Bool) → 4 ≤ statusOf on r full → (on ≡ true) × (ceases r ≡ true)
-ceased-region false r full p = absurd (omega (arith, p))
-ceased-region true Continuous false p = absurd (omega (arith, p))
-ceased-region true Continuous true p = absurd (omega (arith, p))
-ceased-region true Mandatory full p = absurd (omega (arith, p))
+-- one without power: in service, in one of them
+ceased-region : (on : Bool) (r : Region) (full : Bool) → withoutPower (statusOf on r full) ≡ true → (on ≡ true) × (ceases r ≡ true)
+ceased-region false r full p = absurd (false≢true p)
+ceased-region true Continuous false p = absurd (false≢true p)
+ceased-region true Continuous true p = absurd (false≢true p)
+ceased-region true Mandatory full p = absurd (false≢true p)
 ceased-region true Momentary full p = (refl, refl)
 ceased-region true Cease full p = (refl, refl)
 
@@ -48,13 +45,13 @@ module _ (e : Equipment) (st : Settings) where
   -- ---- one sample more
 
   pub one-more : (x : Slice) (h : History)
-      → historyRecovery e st (x ∷ h) ≡ recovering (serving e st h) (serving e st (x ∷ h)) (ceases (regionOf e x)) (historyRecovery e st h)
+      → historyRecovery e st (x ∷ h) ≡ recovering (serving e st h) (serving e st (x ∷ h)) (ceases (regionOf e st x)) (historyRecovery e st h)
   unfolding historyRecovery sinceCessation
-  one-more x h = sym (since-step (serving e st h) (serving e st (x ∷ h)) (ceases (regionOf e x)) (sinceCessation e st h))
+  one-more x h = sym (since-step (serving e st h) (serving e st (x ∷ h)) (ceases (regionOf e st x)) (sinceCessation e st h))
 
-  pub gives : (x : Slice) (h : History) → exports (historyStatus e st (x ∷ h)) ≡ true → (serving e st (x ∷ h) ≡ true) × (ceases (regionOf e x) ≡ false)
+  pub gives : (x : Slice) (h : History) → exports (historyStatus e st (x ∷ h)) ≡ true → (serving e st (x ∷ h) ≡ true) × (ceases (regionOf e st x) ≡ false)
   unfolding historyStatus
-  gives x h p = giving-region (serving e st (x ∷ h)) (regionOf e x) _ p
+  gives x h p = giving-region (serving e st (x ∷ h)) (regionOf e st x) _ p
 
   -- a sample that gives power counts for a board that was in service, and leaves 40 at a return
   pub gives-counts : (x : Slice) (h : History) → exports (historyStatus e st (x ∷ h)) ≡ true → serving e st h ≡ true
@@ -64,7 +61,7 @@ module _ (e : Equipment) (st : Settings) where
   returns-full : (x : Slice) (h : History) → serving e st h ≡ false → historyRecovery e st (x ∷ h) ≡ recoveryTop
   returns-full x h was = one-more x h ∙ rw was (by (serving e st (x ∷ h)))
     where
-      by : (on : Bool) → recovering false on (ceases (regionOf e x)) (historyRecovery e st h) ≡ recoveryTop
+      by : (on : Bool) → recovering false on (ceases (regionOf e st x)) (historyRecovery e st h) ≡ recoveryTop
       by true = refl
       by false = refl
 
@@ -96,19 +93,19 @@ module _ (e : Equipment) (st : Settings) where
   -- ---- a cessation
 
   module _ (sound : Sound e) (ok : settingsAccepted st ≡ true) where
-    ceased-serving : (h : History) → 4 ≤ historyStatus e st h → serving e st h ≡ true
+    ceased-serving : (h : History) → withoutPower (historyStatus e st h) ≡ true → serving e st h ≡ true
     unfolding historyStatus
-    ceased-serving [] p = absurd (omega (arith, p))
-    ceased-serving (x ∷ h) p = ceased-region (serving e st (x ∷ h)) (regionOf e x) _ p .0
+    ceased-serving [] p = absurd (false≢true p)
+    ceased-serving (x ∷ h) p = ceased-region (serving e st (x ∷ h)) (regionOf e st x) _ p .0
 
     -- a board that ceases was in service before: a return is in the continuous operation region
-    ceased-none : (h : History) → 4 ≤ historyStatus e st h → historyRecovery e st h ≡ 0
+    ceased-none : (h : History) → withoutPower (historyStatus e st h) ≡ true → historyRecovery e st h ≡ 0
     unfolding historyStatus
-    ceased-none [] p = absurd (omega (arith, p))
+    ceased-none [] p = absurd (false≢true p)
     ceased-none (x ∷ h) p = by (serving e st h) refl
       where
-        found : (serving e st (x ∷ h) ≡ true) × (ceases (regionOf e x) ≡ true)
-        found = ceased-region (serving e st (x ∷ h)) (regionOf e x) _ p
+        found : (serving e st (x ∷ h) ≡ true) × (ceases (regionOf e st x) ≡ true)
+        found = ceased-region (serving e st (x ∷ h)) (regionOf e st x) _ p
 
         by : (was : Bool) → serving e st h ≡ was → historyRecovery e st (x ∷ h) ≡ 0
         by true was = one-more x h ∙ rw (was, found .0, found .1)
@@ -140,12 +137,11 @@ module _ (e : Equipment) (st : Settings) where
   pub restores-power : Sound e → settingsAccepted st ≡ true → RestoresPower e st (historyReport e st)
   unfolding historyReport
   restores-power sound ok =
-      let from : (h : History) → Ceased (historyReport e st) h → 4 ≤ historyStatus e st h = λ h c. within-true c .0 in
       let counted : (h : History) → Ceased (historyReport e st) h → (run : List Slice) → GivesPower (historyReport e st) h run
       → historyRecovery e st (followedBy h run) ≡ min 40 (length run)
-      = λ h c run g. omega (arith, run-counts run h (ceased-serving sound ok h (from h c)) g, ceased-none sound ok h (from h c)) in
+      = λ h c run g. omega (arith, run-counts run h (ceased-serving sound ok h c) g, ceased-none sound ok h c) in
       record {
-        ceased = λ h c. ceased-none sound ok h (from h c);
+        ceased = ceased-none sound ok;
         tripped = λ h p. tripped-full h (tripped-of e st h p);
         returned = λ x h p q. returns-full x h (tripped-of e st h p);
         goes-on = λ x h was on. gives-counts x h on (sym (service-of e st h) ∙ was);

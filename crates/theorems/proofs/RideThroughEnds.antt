@@ -12,8 +12,8 @@ use borrow.Author.Tests.{lt-leb, not-true}
 use Rattle.rules.specs.Tests.{within}
 use Rattle.rules.specs.Settings.{settingsAccepted}
 use Rattle.rules.specs.Samples.{Slice, Equipment, frequency, lowest, highest}
-use Rattle.rules.specs.Regions.{frequencyRegion, rank, worse, regionOf, ceases}
-use Rattle.rules.specs.Service.{statusOf, exports, varsOf, wattsOf}
+use Rattle.rules.specs.Regions.{frequencyRegion, rank, worse, regionIn, regionOf, ceases}
+use Rattle.rules.specs.Service.{statusOf, exports, withoutPower, varsOf, wattsOf}
 use Rattle.rules.specs.History.{History, serving, climbed, historyStatus, historyRecovery, wattsHolding, historyWatts, historyVars, historyReport}
 use Rattle.rules.specs.declared.Settings.{Settings}
 use Rattle.rules.specs.declared.Region.{Region}
@@ -61,17 +61,17 @@ worse-cease Mandatory = refl
 worse-cease Momentary = refl
 worse-cease Cease = refl
 
-beyond-region : (e : Equipment) (x : Slice) → BeyondRideThrough x → regionOf e x ≡ Cease
+beyond-region : (e : Equipment) (st : Settings) (x : Slice) → BeyondRideThrough x → regionOf e st x ≡ Cease
 unfolding regionOf
-beyond-region e x f =
-    let low = e .region (lowest e x) in
-    let high = e .region (highest e x) in
+beyond-region e st x f =
+    let low = regionIn e st (lowest e x) in
+    let high = regionIn e st (highest e x) in
     ap (λ r. worse low (worse high r)) (beyond-ceases (frequency x) f) ∙ ap (worse low) (worse-cease high) ∙ worse-cease low
 
-worst-rank : (e : Equipment) (x : Slice)
-    → rank (regionOf e x) ≡ max (rank (e .region (lowest e x))) (max (rank (e .region (highest e x))) (rank (frequencyRegion (frequency x))))
+worst-rank : (e : Equipment) (st : Settings) (x : Slice)
+    → rank (regionOf e st x) ≡ max (rank (regionIn e st (lowest e x))) (max (rank (regionIn e st (highest e x))) (rank (frequencyRegion (frequency x))))
 unfolding regionOf
-worst-rank e x = rank-worst (e .region (lowest e x)) (e .region (highest e x)) (frequencyRegion (frequency x))
+worst-rank e st x = rank-worst (regionIn e st (lowest e x)) (regionIn e st (highest e x)) (frequencyRegion (frequency x))
 
 -- ---- what a region tells
 
@@ -82,7 +82,6 @@ no-cessation Momentary = ((λ p. absurd (true≢false p)), (λ p. absurd (omega 
 no-cessation Cease = ((λ p. absurd (true≢false p)), (λ p. absurd (omega (arith, p))))
 
 gives-unless : (r : Region) (full : Bool) → exports (statusOf true r full) ≡ not (ceases r)
-unfolding within
 gives-unless Continuous false = refl
 gives-unless Continuous true = refl
 gives-unless Mandatory full = refl
@@ -90,7 +89,6 @@ gives-unless Momentary full = refl
 gives-unless Cease full = refl
 
 silent-status : (on full : Bool) → exports (statusOf on Cease full) ≡ false
-unfolding within
 silent-status false full = refl
 silent-status true full = refl
 
@@ -99,7 +97,7 @@ silent-status true full = refl
 module _ (e : Equipment) (st : Settings) where
   pub silent : (x : Slice) (h : History) → BeyondRideThrough x → exports (historyStatus e st (x ∷ h)) ≡ false
   unfolding historyStatus
-  silent x h f = rw (beyond-region e x f) (silent-status (serving e st (x ∷ h)) (leb (st .ramp) (climbed e st (x ∷ h))))
+  silent x h f = rw (beyond-region e st x f) (silent-status (serving e st (x ∷ h)) (leb (st .ramp) (climbed e st (x ∷ h))))
 
   no-watts : (x : Slice) (h : History) → BeyondRideThrough x → historyWatts e st (x ∷ h) ≡ 0
   unfolding historyWatts wattsHolding wattsOf
@@ -111,36 +109,36 @@ module _ (e : Equipment) (st : Settings) where
 
   in-cease : (x : Slice) (h : History) → BeyondRideThrough x → serving e st (x ∷ h) ≡ true → historyStatus e st (x ∷ h) ≡ 5
   unfolding historyStatus
-  in-cease x h f on = rw (on, beyond-region e x f)
+  in-cease x h f on = rw (on, beyond-region e st x f)
 
-  given-unless : (x : Slice) (h : History) → serving e st (x ∷ h) ≡ true → exports (historyStatus e st (x ∷ h)) ≡ not (ceases (regionOf e x))
+  given-unless : (x : Slice) (h : History) → serving e st (x ∷ h) ≡ true → exports (historyStatus e st (x ∷ h)) ≡ not (ceases (regionOf e st x))
   unfolding historyStatus
-  given-unless x h on = rw on (gives-unless (regionOf e x) (leb (st .ramp) (climbed e st (x ∷ h))))
+  given-unless x h on = rw on (gives-unless (regionOf e st x) (leb (st .ramp) (climbed e st (x ∷ h))))
 
   -- in service, from 57000 to 62000
   pub given-by-voltages : (x : Slice) (h : History) → 57000 ≤ frequency x → frequency x ≤ 62000 → serving e st (x ∷ h) ≡ true
-      → (exports (historyStatus e st (x ∷ h)) ≡ true) ↔ ((ceases (e .region (lowest e x)) ≡ false) × (ceases (e .region (highest e x)) ≡ false))
+      → (exports (historyStatus e st (x ∷ h)) ≡ true) ↔ ((ceases (regionIn e st (lowest e x)) ≡ false) × (ceases (regionIn e st (highest e x)) ≡ false))
   given-by-voltages x h low high on = (there, back)
     where
-      there : exports (historyStatus e st (x ∷ h)) ≡ true → (ceases (e .region (lowest e x)) ≡ false) × (ceases (e .region (highest e x)) ≡ false)
+      there : exports (historyStatus e st (x ∷ h)) ≡ true → (ceases (regionIn e st (lowest e x)) ≡ false) × (ceases (regionIn e st (highest e x)) ≡ false)
       there p =
-          let r = no-cessation (regionOf e x) .0 (not-true (ceases (regionOf e x)) (sym (given-unless x h on) ∙ p)) in
-          let worst = worst-rank e x in (
-            no-cessation (e .region (lowest e x)) .1 (omega (arith, r, worst)),
-            no-cessation (e .region (highest e x)) .1 (omega (arith, r, worst)),
+          let r = no-cessation (regionOf e st x) .0 (not-true (ceases (regionOf e st x)) (sym (given-unless x h on) ∙ p)) in
+          let worst = worst-rank e st x in (
+            no-cessation (regionIn e st (lowest e x)) .1 (omega (arith, r, worst)),
+            no-cessation (regionIn e st (highest e x)) .1 (omega (arith, r, worst)),
           )
 
-      back : (ceases (e .region (lowest e x)) ≡ false) × (ceases (e .region (highest e x)) ≡ false) → exports (historyStatus e st (x ∷ h)) ≡ true
+      back : (ceases (regionIn e st (lowest e x)) ≡ false) × (ceases (regionIn e st (highest e x)) ≡ false) → exports (historyStatus e st (x ∷ h)) ≡ true
       back p =
-          let a = no-cessation (e .region (lowest e x)) .0 (p .0) in
-          let b = no-cessation (e .region (highest e x)) .0 (p .1) in
+          let a = no-cessation (regionIn e st (lowest e x)) .0 (p .0) in
+          let b = no-cessation (regionIn e st (highest e x)) .0 (p .1) in
           let c = near-rides (frequency x) low high in
-          given-unless x h on ∙ ap not (no-cessation (regionOf e x) .1 (omega (arith, a, b, c, worst-rank e x)))
+          given-unless x h on ∙ ap not (no-cessation (regionOf e st x) .1 (omega (arith, a, b, c, worst-rank e st x)))
 
   module _ (sound : Sound e) (ok : settingsAccepted st ≡ true) where
     recovers-from-none : (x : Slice) (h : History) → BeyondRideThrough x → serving e st (x ∷ h) ≡ true → historyRecovery e st (x ∷ h) ≡ 0
-    unfolding historyReport within
-    recovers-from-none x h f on = restores-power e st sound ok .ceased (x ∷ h) (ap (within 4 5) (in-cease x h f on))
+    unfolding historyReport
+    recovers-from-none x h f on = restores-power e st sound ok .ceased (x ∷ h) (ap withoutPower (in-cease x h f on))
 
     -- a return is in the continuous operation region
     stays-tripped : (x : Slice) (h : History) → BeyondRideThrough x → serving e st h ≡ false → serving e st (x ∷ h) ≡ false
@@ -148,9 +146,9 @@ module _ (e : Equipment) (st : Settings) where
       where
         by : (on : Bool) → serving e st (x ∷ h) ≡ on → on ≡ false
         by false p = refl
-        by true p = absurd (true≢false (sym (ap ceases (beyond-region e x f)) ∙ ap ceases (return-continuous e st sound ok h x was p)))
+        by true p = absurd (true≢false (sym (ap ceases (beyond-region e st x f)) ∙ ap ceases (return-continuous e st sound ok h x was p)))
 
-    pub ceases-beyond-ride-through : CeasesBeyondRideThrough e (historyReport e st)
+    pub ceases-beyond-ride-through : CeasesBeyondRideThrough e st (historyReport e st)
     unfolding historyReport
     ceases-beyond-ride-through =
         record {

@@ -11,7 +11,6 @@ use borrow.Author.Tests.{le-leb}
 use lib.Dec.{eqb}
 use lib.IntN.{ℤ}
 use lib.ListN.{length}
-use Rattle.rules.specs.Tests.{within}
 use Rattle.rules.specs.Samples.{Slice, Equipment}
 use Rattle.rules.specs.Counters.{counted, full, tripRules, readyRule, rules}
 use Rattle.rules.specs.Regions.{regionOf, isContinuous, ceases}
@@ -60,9 +59,9 @@ module _ (e : Equipment) (st : Settings) where
   nine-counters h = ap length (counters-are h)
 
   pub service-is : (h : History) → inService (recordOf e st h .status) ≡ serving e st h
-  unfolding recordOf settled fresh serving within
+  unfolding recordOf settled fresh serving
   service-is [] = refl
-  service-is (x ∷ h) = service-status _ (regionOf e x) (eqb (min (st .ramp) (climbed e st (x ∷ h))) (st .ramp))
+  service-is (x ∷ h) = service-status _ (regionOf e st x) (eqb (min (st .ramp) (climbed e st (x ∷ h))) (st .ramp))
 
   pub ramp-is : (h : History) → recordOf e st h .ramp ≡ min (st .ramp) (climbed e st h)
   unfolding recordOf settled fresh climbed
@@ -96,7 +95,7 @@ module _ (e : Equipment) (st : Settings) where
   read-counters h = ap (each capped (rules e st)) (counters-are h) ∙ each-all capped (countOf h) h (capped-is h) (rules e st)
 
   read-service : (h : History) → inService (readAs e st (recordOf e st h) .status) ≡ serving e st h
-  unfolding readAs within
+  unfolding readAs
   read-service h = kept-service (recordOf e st h .status) ∙ service-is h
 
   pub read-ramp : (h : History) → readAs e st (recordOf e st h) .ramp ≡ min (st .ramp) (climbed e st h)
@@ -157,8 +156,8 @@ module _ (e : Equipment) (st : Settings) where
       = each-of full (complete (x ∷ h)) (x ∷ h) (full-is (x ∷ h)) (tripRules e st) (readyRule e st ∷ []) in
       rw (cs, e₂, e₃, e₄, e₅, e₆, e₇, ts, full-is (x ∷ h) (readyRule e st))
       (ap₂ (λ (r n : ℕ). settled e st x (map (countOf (x ∷ h)) (rules e st)) (serving e st (x ∷ h)) r n (historyHeld e st (x ∷ h)))
-      (ramp-step (serving e st h) (serving e st (x ∷ h)) (isContinuous (regionOf e x)) (st .ramp) (climbed e st h))
-      (since-step (serving e st h) (serving e st (x ∷ h)) (ceases (regionOf e x)) (sinceCessation e st h)))
+      (ramp-step (serving e st h) (serving e st (x ∷ h)) (isContinuous (regionOf e st x)) (st .ramp) (climbed e st h))
+      (since-step (serving e st h) (serving e st (x ∷ h)) (ceases (regionOf e st x)) (sinceCessation e st h)))
 
   pub next-is : (h : History) (x : Slice) → next e st x (recordOf e st h) ≡ recordOf e st (x ∷ h)
   unfolding next

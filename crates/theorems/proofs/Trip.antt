@@ -13,7 +13,7 @@ use Rattle.rules.specs.Tests.{any}
 use Rattle.rules.specs.Settings.{settingsAccepted}
 use Rattle.rules.specs.Samples.{Slice, Equipment, permitted, frequency, lowest, highest}
 use Rattle.rules.specs.Counters.{Rule, Kind, kinds, undervoltage, inRange, limitRule, limitRules, tripRules, readyRule}
-use Rattle.rules.specs.Regions.{regionOf}
+use Rattle.rules.specs.Regions.{regionIn, regionOf}
 use Rattle.rules.specs.History.{History, streak, complete, serving}
 use Rattle.rules.specs.declared.Settings.{Settings}
 use Rattle.rules.specs.declared.Region.the-variants.{Continuous}
@@ -150,10 +150,10 @@ module _ (e : Equipment) (st : Settings) where
 
   -- ---- a return is in the continuous operation region
 
-  pub in-range-continuous : Sound e → settingsAccepted st ≡ true → (x : Slice) → inRange e st x ≡ true → regionOf e x ≡ Continuous
+  pub in-range-continuous : Sound e → settingsAccepted st ≡ true → (x : Slice) → inRange e st x ≡ true → regionOf e st x ≡ Continuous
   unfolding inRange regionOf
-  in-range-continuous sound ok x p = continuous-in st ok (permitted x) (lowest e x) (highest e x) (frequency x) p (e .region) (sound .continuous)
+  in-range-continuous sound ok x p = continuous-in st ok (permitted x) (lowest e x) (highest e x) (frequency x) p (regionIn e st) (sound .continuous)
 
   pub return-continuous : Sound e → settingsAccepted st ≡ true → (h : History) (x : Slice) → serving e st h ≡ false → serving e st (x ∷ h) ≡ true
-      → regionOf e x ≡ Continuous
+      → regionOf e st x ≡ Continuous
   return-continuous sound ok h x p q = in-range-continuous sound ok x (return-law h x p .0 q .throughout 0 (omega arith))

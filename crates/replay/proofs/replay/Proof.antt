@@ -1,79 +1,40 @@
--- `replay::replay` meets its contract: settings by 2 or 3, then the buffer by 9, and otherwise what all samples make (`Answering.antt`).
+-- `replay::replay` meets its contract: our table is lent.
 -- Assumes nothing.
-use mathlib.Core.Path.{sym, ap, _∙_}
-use native.Mathlib.Omega.{arith}
+use mathlib.Core.Path.{_∙_}
 use denote.Ref.{now}
-use Rattle.rules.specs.Settings.{settingsPassed}
-use Rattle.replay.proofs.Answering.{by-2-or-3, by-9, through, numbered}
+use Rattle.rules.specs.Regions.{ourEquipment, equippedWith}
+use Rattle.sensing.proofs.OurTable.{table-alike}
+use Rattle.replay.proofs.Answering.{replayed-alike, into-alike}
 use borrow.Author.Needs.{needs}
 use Rattle.replay.proofs.replay.Statement.{statement}
 use Rattle.replay.proofs.replay.Tie as tie
 
-check-requires : tie.Need-check-requires
-check-requires c κs = search needs
+table-requires : tie.Need-table-requires
+table-requires c κs = search needs
 
-enum-known-cause : tie.Need-enum-known-cause
-enum-known-cause c = search needs
+slice-aggregate-replay-by : tie.Need-slice-aggregate-replay-by
+slice-aggregate-replay-by c = search needs
 
-refused-requires : tie.Need-refused-requires
-refused-requires c κs = search needs
-
-enum-told : tie.Need-enum-told
-enum-told c = search needs
-
-refused-requires-2 : tie.Need-refused-requires-2
-refused-requires-2 c κs = search needs
-
-returns : tie.Need-returns
-returns c =
-    let a = c .before .before .before .before .before .before .before .args in
-    let told = sym (c .before .before .before .before .check .ensures .0) ∙ c .before .before .enum-told .given .1 in
-    let is = by-9 (a .settings) (now (a .samples)) (now (a .buffer)) told (omega (arith, c .before .if1 .taken)) in
-    let told-all = c .refused2 .ensures ∙ is .0 in
-    ((told-all, is .1), numbered (a .settings) (now (a .samples)) (now (a .buffer)) _ told-all)
-
-step-all-requires : tie.Need-step-all-requires
-step-all-requires c κs = ap settingsPassed (sym (c .before .before .before .check .ensures .0) ∙ c .before .enum-told .given .1)
-
-save-requires : tie.Need-save-requires
-save-requires c κs = search needs
-
-returns-2 : tie.Need-returns-2
-returns-2 c =
-    let a = c .before .before .before .before .before .before .before .args in
-    let told = sym (c .before .before .before .before .check .ensures .0) ∙ c .before .before .cause .given .1 in
-    let is = by-2-or-3 (a .settings) (now (a .samples)) (now (a .buffer)) _ _ told in
-    let told-all = c .refused .ensures ∙ is .0 in
-    ((told-all, is .1), numbered (a .settings) (now (a .samples)) (now (a .buffer)) _ told-all)
+replay-by-requires : tie.Need-replay-by-requires
+replay-by-requires c κs = search needs
 
 same-length : tie.Need-same-length
 same-length c = search needs
 
-returns-3 : tie.Need-returns-3
-returns-3 c =
-    let saved = c .before .before in
-    let ran = saved .before .before .before .before in
-    let long = ran .before in
-    let known = long .before in
-    let checked = known .before .before in
-    let a = checked .before .before .before .args in
-    let told = sym (checked .check .ensures .0) ∙ known .enum-told .given .1 in
-    let is = through (a .settings) (now (a .samples)) (now (a .buffer)) told (omega (arith, long .if1 .left)) (ran .step-all .result)
-    (ran .step-all .ensures) _ (saved .save .ensures .0 .1) in
-    (is, numbered (a .settings) (now (a .samples)) (now (a .buffer)) _ (is .0))
+returns : tie.Need-returns
+returns c =
+    let call = c .before .before in
+    let t = call .before .before .before .table in
+    let a = call .before .before .before .before .before .before .args in
+    let is = call .replay-by .ensures in
+    let same = table-alike (t .result) (t .ensures) in
+    let e = equippedWith (t .result) in (
+      (
+        is .0 .0 ∙ replayed-alike e ourEquipment same (a .settings) (now (a .samples)) (now (a .buffer)),
+        is .0 .1 ∙ into-alike e ourEquipment same (a .settings) (now (a .samples)) (now (a .buffer)),
+      ),
+      is .1,
+    )
 
 pub replay-spec : {M : Type 1} → statement M
-replay-spec =
-    tie.close
-    (tie.spec
-    check-requires
-    enum-known-cause
-    refused-requires
-    enum-told
-    refused-requires-2
-    returns
-    step-all-requires
-    save-requires
-    returns-2
-    same-length
-    returns-3)
+replay-spec = tie.close (tie.spec table-requires slice-aggregate-replay-by replay-by-requires same-length returns)

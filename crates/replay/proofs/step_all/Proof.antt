@@ -1,27 +1,20 @@
 -- `replay::step_all` meets its contract. The loop's invariant: the samples that are left end as all do from a fresh board (`Stepping.antt`).
 -- Assumes nothing.
-use mathlib.Core.Path.{_≡_, _∙_}
 use Prim.Native.Nat.{_-_}
 use native.Mathlib.Omega.{arith}
 use denote.Ref.{now}
 use lib.ListN.{length, take, drop}
-use Rattle.rules.specs.Regions.{ourEquipment, equippedWith}
-use Rattle.rules.specs.Records.{stepOf}
-use Rattle.laws.proofs.Alike.{step-alike}
-use Rattle.service.proofs.OurTable.{table-alike}
+use Rattle.rules.specs.Regions.{equippedWith}
 use Rattle.replay.proofs.Stepping.{Going, beginning, reported, refused, ended}
 use borrow.Author.Needs.{needs}
 use Rattle.replay.proofs.step_all.Statement.{statement}
 use Rattle.replay.proofs.step_all.Tie as tie
 
 abbrev Inv-loop : tie.InvT-loop
-Inv-loop settings samples t board₀ report₀ accepted₀ at₀ board report accepted at = Going settings samples at board report accepted
+Inv-loop table settings samples board₀ report₀ accepted₀ at₀ board report accepted at = Going (equippedWith table) settings samples at board report accepted
 
 abbrev μ-loop : tie.MeasureT-loop
-μ-loop settings samples t board₀ report₀ accepted₀ at₀ board report accepted at = length samples - at
-
-table-requires : tie.Need-table-requires Inv-loop μ-loop
-table-requires c κs = search needs
+μ-loop table settings samples board₀ report₀ accepted₀ at₀ board report accepted at = length samples - at
 
 fresh-requires : tie.Need-fresh-requires Inv-loop μ-loop
 fresh-requires c κs = search needs
@@ -32,62 +25,50 @@ fresh-report-requires c κs = search needs
 loop-holds : tie.Need-loop-holds Inv-loop μ-loop
 loop-holds c =
     let a = c .before .before .before .before .args in
-    beginning (a .settings) (now (a .samples)) (c .before .fresh .result) (c .fresh-report .result) (c .before .fresh .ensures) (c .fresh-report .ensures)
+    beginning (equippedWith (now (a .table))) (a .settings) (now (a .samples)) (c .before .fresh .result) (c .fresh-report .result) (c .before .fresh .ensures) (c .fresh-report .ensures)
 
 group-end-requires : tie.Need-group-end-requires Inv-loop μ-loop
 group-end-requires c κs = c .before .loop .inv .inside
 
 mul-step-accepted : tie.Need-mul-step-accepted Inv-loop μ-loop
 mul-step-accepted c =
-    let z = c .before .before .before .before .before .before .before .before in
-    record { fits = omega (arith, z .good .1 .0 .1, c .before .before .before .loop .inv .inside) }
+    let z = c .before .before .before .before .before .before .before in
+    record { fits = omega (arith, z .good .1 .1 .0 .1, c .before .before .loop .inv .inside) }
 
 sub-step-accepted : tie.Need-sub-step-accepted Inv-loop μ-loop
-sub-step-accepted c = omega (arith, c .before .group-end .ensures)
+sub-step-accepted c = omega (arith, c .group-end .ensures)
 
 part-step-accepted-start : tie.Need-part-step-accepted-start Inv-loop μ-loop
-part-step-accepted-start c = omega (arith, c .before .group-end .ensures)
+part-step-accepted-start c = omega (arith, c .group-end .ensures)
 
 part-step-accepted-end : tie.Need-part-step-accepted-end Inv-loop μ-loop
-part-step-accepted-end c = omega (arith, c .before .group-end .ensures)
+part-step-accepted-end c = omega (arith, c .group-end .ensures)
 
 step-accepted-requires : tie.Need-step-accepted-requires Inv-loop μ-loop
-step-accepted-requires c κs = c .before .before .before .before .before .before .before .before .before .pre
+step-accepted-requires c κs = c .before .before .before .before .before .before .before .before .pre
 
 enum-known-answer : tie.Need-enum-known-answer Inv-loop μ-loop
 enum-known-answer c = search needs
 
 add-accepted : tie.Need-add-accepted Inv-loop μ-loop
 add-accepted c =
-    let w = c .before .before .before .before .before .before .before .before .before .loop in
+    let w = c .before .before .before .before .before .before .before .before .loop in
     record { fits = omega (arith, w .inv .few, w .inv .inside) }
-
--- a turn's step is ours, with our table lent
-is-step : (c : tie.After-step-accepted Inv-loop μ-loop)
-    → let w = c .before .before .before .before .before .loop in
-    let a = c .before .before .before .before .before .before .before .before .before .before .args in
-    let end = c .before .before .before .group-end .result in
-    c .step-accepted .result ≡ stepOf ourEquipment (w .board) (a .settings) (take (end - w .at) (drop (w .at) (now (a .samples))))
-is-step c =
-    let w = c .before .before .before .before .before .loop in
-    let t = c .before .before .before .before .before .before .before .before .table in
-    let a = c .before .before .before .before .before .before .before .before .before .before .args in
-    c .step-accepted .ensures ∙ step-alike (equippedWith (t .result)) ourEquipment (table-alike (t .result) (t .ensures)) (w .board) (a .settings) _
 
 loop-less : tie.Need-loop-less Inv-loop μ-loop
 loop-less c =
     let step = c .before .before .before .before in
-    omega (arith, step .before .before .before .group-end .ensures, step .before .before .before .before .loop-test .taken)
+    omega (arith, step .before .before .group-end .ensures, step .before .before .before .loop-test .taken)
 
 loop-again : tie.Need-loop-again Inv-loop μ-loop
 loop-again c =
     let step = c .before .before .before .before in
-    let end = step .before .before .before .group-end in
-    let turn = step .before .before .before .before in
+    let end = step .before .before .group-end in
+    let turn = step .before .before .before in
     let w = turn .before .loop in
     let a = turn .before .before .before .before .before .before .args in
-    reported (a .settings) (now (a .samples)) (w .at) (w .board) (w .report) (w .accepted) (w .inv) (turn .loop-test .taken) (end .result) (end .ensures)
-    (step .step-accepted .result) (is-step step) _ (c .before .answer .given .1)
+    reported (equippedWith (now (a .table))) (a .settings) (now (a .samples)) (w .at) (w .board) (w .report) (w .accepted) (w .inv) (turn .loop-test .taken) (end .result) (end .ensures)
+    (step .step-accepted .result) (step .step-accepted .ensures) _ (c .before .answer .given .1)
 
 enum-told : tie.Need-enum-told Inv-loop μ-loop
 enum-told c = search needs
@@ -95,23 +76,23 @@ enum-told c = search needs
 loop-less-2 : tie.Need-loop-less-2 Inv-loop μ-loop
 loop-less-2 c =
     let step = c .before .before .before in
-    omega (arith, step .before .before .before .group-end .ensures, step .before .before .before .before .loop-test .taken)
+    omega (arith, step .before .before .group-end .ensures, step .before .before .before .loop-test .taken)
 
 loop-again-2 : tie.Need-loop-again-2 Inv-loop μ-loop
 loop-again-2 c =
     let step = c .before .before .before in
-    let end = step .before .before .before .group-end in
-    let turn = step .before .before .before .before in
+    let end = step .before .before .group-end in
+    let turn = step .before .before .before in
     let w = turn .before .loop in
     let a = turn .before .before .before .before .before .before .args in
-    refused (a .settings) (now (a .samples)) (w .at) (w .board) (w .report) (w .accepted) (w .inv) (turn .loop-test .taken) (end .result) (end .ensures)
-    (step .step-accepted .result) (is-step step) _ (c .enum-told .given .1)
+    refused (equippedWith (now (a .table))) (a .settings) (now (a .samples)) (w .at) (w .board) (w .report) (w .accepted) (w .inv) (turn .loop-test .taken) (end .result) (end .ensures)
+    (step .step-accepted .result) (step .step-accepted .ensures) _ (c .enum-told .given .1)
 
 returns : tie.Need-returns Inv-loop μ-loop
 returns c =
     let w = c .before .loop in
     let a = c .before .before .before .before .before .before .args in
-    ended (a .settings) (now (a .samples)) (w .at) (w .board) (w .report) (w .accepted) (w .inv) (c .loop-test .left)
+    ended (equippedWith (now (a .table))) (a .settings) (now (a .samples)) (w .at) (w .board) (w .report) (w .accepted) (w .inv) (c .loop-test .left)
 
 pub step-all-spec : {M : Type 1} → statement M
 step-all-spec =
@@ -119,7 +100,6 @@ step-all-spec =
     (tie.spec
     Inv-loop
     μ-loop
-    table-requires
     fresh-requires
     fresh-report-requires
     loop-holds

@@ -2,7 +2,7 @@
 -- Assumes nothing.
 use denote.Ref.{now}
 use Rattle.rules.specs.Regions.{ourEquipment, equippedWith}
-use Rattle.service.proofs.OurTable.{table-alike}
+use Rattle.sensing.proofs.OurTable.{table-alike}
 use Rattle.respond.proofs.Equipments.{carried-alike}
 use Rattle.respond.proofs.Whole.{not-samples}
 use borrow.Author.Needs.{needs}
@@ -16,6 +16,9 @@ returns c =
 
 table-requires : tie.Need-table-requires
 table-requires c κs = search needs
+
+slice-aggregate-sample-lines : tie.Need-slice-aggregate-sample-lines
+slice-aggregate-sample-lines c = search needs
 
 sample-lines-requires : tie.Need-sample-lines-requires
 sample-lines-requires c κs = search needs
@@ -33,4 +36,4 @@ returns-2 c =
 
 pub on-samples-spec : {M : Type 1} → statement M
 on-samples-spec =
-    tie.close (tie.spec returns table-requires sample-lines-requires same-length returns-2)
+    tie.close (tie.spec returns table-requires slice-aggregate-sample-lines sample-lines-requires same-length returns-2)

@@ -5,6 +5,7 @@ use Prim.Native.Nat.{ℕ}
 use borrow.Author.Tests.{not-true, not-false}
 use Rattle.rules.specs.Samples.{Slice, Equipment}
 use Rattle.rules.specs.Regions.{voltageRegion, frequencyRegion, worse, regionOf}
+use Rattle.rules.specs.declared.Settings.{Settings}
 use Rattle.readings.specs.declared.reading.Reading.{Reading}
 use Rattle.readings.specs.Readings.{readingOf}
 use Rattle.explain.specs.Explained.{firstWorst, regionCause}
@@ -15,15 +16,15 @@ use Rattle.explain.proofs.status.status_rule.Statement.{statement}
 use Rattle.explain.proofs.status.status_rule.Tie as tie
 
 -- on a reading, by the Category III voltage regions
-cause-read : (e : Equipment) (x : Slice) (r : Reading) → e .region ≡ voltageRegion → readingOf e x ≡ r
+cause-read : (e : Equipment) (st : Settings) (x : Slice) (r : Reading) → e .region ≡ voltageRegion → readingOf e x ≡ r
     → firstWorst (worse (voltageRegion (r .low)) (worse (voltageRegion (r .high)) (frequencyRegion (r .frequency)))) (voltageRegion (r .low)) (voltageRegion (r .high))
-    ≡ regionCause e x
+    ≡ regionCause e st x
 unfolding regionCause regionOf
-cause-read e x r regions q = rw (← q, regions) refl
+cause-read e st x r regions q = rw (← q, regions) refl
 
 returns : tie.Need-returns
 returns c =
-    λ e x trips ready regions q eight e₁.
+    λ e st x trips ready regions q eight e₁.
     rw (not-true (c .before .before .args .was) (c .if2 .taken), c .before .if1 .taken) refl
 
 voltage-region-requires : tie.Need-voltage-region-requires
@@ -45,20 +46,20 @@ returns-2 c =
     let low = high .before in
     let two = low .before in
     let a = two .before .before .args in
-    λ e x trips ready regions q eight e₁.
+    λ e st x trips ready regions q eight e₁.
     rw (not-false (a .was) (two .if2 .left), two .before .if1 .taken)
-    (c .region-cause .ensures ∙ rw (frequency .frequency-region .ensures, high .voltage-region2 .ensures, low .voltage-region .ensures) (cause-read e x (a .r) regions q))
+    (c .region-cause .ensures ∙ rw (frequency .frequency-region .ensures, high .voltage-region2 .ensures, low .voltage-region .ensures) (cause-read e st x (a .r) regions q))
 
 returns-3 : tie.Need-returns-3
 returns-3 c =
-    λ e x trips ready regions q eight e₁.
+    λ e st x trips ready regions q eight e₁.
     rw (not-true (c .before .before .args .was) (c .if3 .taken), c .before .if1 .left) refl
 
 returns-4 : tie.Need-returns-4
 returns-4 c =
     let three = c .before .before in
     let a = three .before .before .args in
-    λ e x trips ready regions q eight e₁.
+    λ e st x trips ready regions q eight e₁.
     let off = ap (λ (y : Reading). y .permit) q ∙ not-true (a .r .permit) (c .if4 .taken) in
     rw (not-false (a .was) (three .if3 .left), three .before .if1 .left, off) refl
 
@@ -69,7 +70,7 @@ returns-5 : tie.Need-returns-5
 returns-5 c =
     let three = c .before .before .before in
     let a = three .before .before .args in
-    λ e x trips ready regions q eight e₁.
+    λ e st x trips ready regions q eight e₁.
     let permit = ap (λ (y : Reading). y .permit) q ∙ not-false (a .r .permit) (c .before .if4 .left) in
     rw (not-false (a .was) (three .if3 .left), three .before .if1 .left, permit)
     (ap (λ (n : ℕ). StatusRule.TripLimit n) (c .first-place .ensures ∙ placed-first (a .bits) trips ready eight e₁))

@@ -9,16 +9,16 @@ use Rattle.handling.proofs.sample_lines.answer_to.Statement.{statement}
 use Rattle.handling.proofs.sample_lines.answer_to.Tie as tie
 
 returns : tie.Need-returns
-returns c = rw (not-true (c .before .before .args .x .found) (c .if1 .taken))
+returns c = rw (not-true (c .before .before .before .args .x .found) (c .if1 .taken))
 
 refused-settings-requires : tie.Need-refused-settings-requires
 refused-settings-requires c κs =
-    let start = c .before .before .before in
-    sym (start .pre) ∙ not-true (start .args .fine) (c .if2 .taken)
+    let start = c .before .before .before .before in
+    sym (start .pre .1) ∙ not-true (start .args .fine) (c .if2 .taken)
 
 returns-2 : tie.Need-returns-2
 returns-2 c =
-    let start = c .before .before .before .before in
+    let start = c .before .before .before .before .before in
     rw (not-false (start .args .x .found) (c .before .before .if1 .left))
     (c .refused-settings .ensures (equippedWith (now (start .args .table))) (start .args .x .slice))
 
@@ -27,12 +27,12 @@ slice-aggregate-step-accepted c = search needs
 
 step-accepted-requires : tie.Need-step-accepted-requires
 step-accepted-requires c κs =
-    let start = c .before .before .before .before .before in
-    sym (start .pre) ∙ not-false (start .args .fine) (c .before .before .if2 .left)
+    let start = c .before .before .before .before .before .before in
+    (start .pre .0, sym (start .pre .1) ∙ not-false (start .args .fine) (c .before .before .if2 .left))
 
 returns-3 : tie.Need-returns-3
 returns-3 c =
-    let start = c .before .before .before .before .before .before in
+    let start = c .before .before .before .before .before .before .before in
     rw (not-false (start .args .x .found) (c .before .before .before .before .if1 .left)) (c .step-accepted .ensures)
 
 pub answer-to-spec : {M : Type 1} → statement M

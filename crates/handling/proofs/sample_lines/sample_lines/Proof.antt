@@ -30,7 +30,7 @@ sample-form-requires c κs = search needs
 
 loop-holds : tie.Need-loop-holds Inv-loop μ-loop
 loop-holds c =
-    let a = c .before .before .before .before .before .before .before in
+    let a = c .before .before .before .before .before .before .before .before in
     beginning (equippedWith (now (a .args .table))) (now (a .args .s)) (now (a .args .out)) (a .args .h) (a .pre .0) (a .pre .1) (a .pre .2) (a .pre .3)
 
 slice-aggregate-line-at : tie.Need-slice-aggregate-line-at Inv-loop μ-loop
@@ -46,12 +46,15 @@ answerable-requires : tie.Need-answerable-requires Inv-loop μ-loop
 answerable-requires c κs = search needs
 
 answer-to-requires : tie.Need-answer-to-requires Inv-loop μ-loop
-answer-to-requires c κs = c .before .before .before .before .before .before .before .before .accepted .ensures
+answer-to-requires c κs =
+    let fine = c .before .before .before .before .before .before .before .before in
+    let start = fine .before .before .before .before .before .before in
+    (start .pre .4, fine .accepted .ensures)
 
 put-answer-requires : tie.Need-put-answer-requires Inv-loop μ-loop
 put-answer-requires c κs =
     let w = c .before .before .before .before .before .before .before .before .loop in
-    let a = c .before .before .before .before .before .before .before .before .before .before .before .before .before .before .before .before .args in
+    let a = c .before .before .before .before .before .before .before .before .before .before .before .before .before .before .before .before .before .args in
     let s = now (a .s) in
     let d = now (a .out) in
     let e = equippedWith (now (a .table)) in
@@ -69,7 +72,7 @@ add-line c = let f = c .before .before .before .before .before .before .before .
 loop-less : tie.Need-loop-less Inv-loop μ-loop
 loop-less c =
     let w = c .before .before .before .before .before .before .before .before .before .before .before .loop in
-    let a = c .before .before .before .before .before .before .before .before .before .before .before .before .before .before .before .before .before .before .before .args in
+    let a = c .before .before .before .before .before .before .before .before .before .before .before .before .before .before .before .before .before .before .before .before .args in
     let s = now (a .s) in
     let d = now (a .out) in
     let e = equippedWith (now (a .table)) in
@@ -90,7 +93,7 @@ loop-less c =
 loop-again : tie.Need-loop-again Inv-loop μ-loop
 loop-again c =
     let w = c .before .before .before .before .before .before .before .before .before .before .before .loop in
-    let a = c .before .before .before .before .before .before .before .before .before .before .before .before .before .before .before .before .before .before .before .args in
+    let a = c .before .before .before .before .before .before .before .before .before .before .before .before .before .before .before .before .before .before .before .before .args in
     let s = now (a .s) in
     let d = now (a .out) in
     let e = equippedWith (now (a .table)) in
@@ -111,7 +114,7 @@ loop-less-2 c = rw (c .if1 .left, c .before .before .before .before .loop-test .
 loop-again-2 : tie.Need-loop-again-2 Inv-loop μ-loop
 loop-again-2 c =
     let w = c .before .before .before .before .before .loop in
-    let a = c .before .before .before .before .before .before .before .before .before .before .before .before .before .args in
+    let a = c .before .before .before .before .before .before .before .before .before .before .before .before .before .before .args in
     let s = now (a .s) in
     let d = now (a .out) in
     let e = equippedWith (now (a .table)) in

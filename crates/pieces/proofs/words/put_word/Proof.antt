@@ -8,6 +8,7 @@ use native.Mathlib.Omega.{arith}
 use lib.Dec.{lit≤}
 use lib.ListN.{length, getD, take, drop, List·getD-eq-default}
 use Rattle.rules.specs.Text.{bytes}
+use Rattle.rules.specs.Statuses.{topStatus}
 use Rattle.rules.specs.Transcripts.{statusWords}
 use Rattle.buffers.proofs.Writing.{written-none}
 use Rattle.pieces.specs.Pieces.{statusWord, WordRow}
@@ -15,7 +16,7 @@ use Rattle.pieces.proofs.Lengths.{word-length}
 use Rattle.pieces.proofs.words.put_word.Statement.{statement}
 use Rattle.pieces.proofs.words.put_word.Tie as tie
 
-unknown : (s : ℕ) → 5 < s → statusWord s ≡ []
+unknown : (s : ℕ) → topStatus < s → statusWord s ≡ []
 unfolding statusWord
 unknown s h = ap bytes (List·getD-eq-default statusWords "" {n = s} (omega arith))
 
@@ -23,7 +24,7 @@ row : {table : List ℕ} {s : ℕ} → s * 11 + 11 ≤ length table → getD tab
     → take (length (statusWord s)) (drop (s * 11 + 1) table) ≡ statusWord s → WordRow table s
 row {s = s} i c w = record { inside = i; short = word-length s; count = c; word = w }
 
-rows : {table : List ℕ} → WordRow table 0 → WordRow table 1 → WordRow table 2 → WordRow table 3 → WordRow table 4 → WordRow table 5 → (s : ℕ) → s ≤ 5
+rows : {table : List ℕ} → WordRow table 0 → WordRow table 1 → WordRow table 2 → WordRow table 3 → WordRow table 4 → WordRow table 5 → (s : ℕ) → s ≤ topStatus
     → WordRow table s
 rows r₀ r₁ r₂ r₃ r₄ r₅ zero h = r₀
 rows r₀ r₁ r₂ r₃ r₄ r₅ (suc zero) h = r₁

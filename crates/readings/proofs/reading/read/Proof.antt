@@ -9,36 +9,42 @@ use Rattle.readings.proofs.reading.read.Tie as tie
 
 shared-slice-read-first : tie.Need-shared-slice-read-first
 shared-slice-read-first c =
-    let s = c .before .before in
-    let seven = sample-right (now (s .args .x)) (s .pre) .seven in
+    let s = c .before .before .before in
+    let seven = sample-right (now (s .args .x)) (s .pre .1) .seven in
     search needs
 
 shared-slice-read-second : tie.Need-shared-slice-read-second
 shared-slice-read-second c =
-    let s = c .before .before .before in
-    let seven = sample-right (now (s .args .x)) (s .pre) .seven in
+    let s = c .before .before .before .before in
+    let seven = sample-right (now (s .args .x)) (s .pre .1) .seven in
     search needs
 
 shared-slice-read-third : tie.Need-shared-slice-read-third
 shared-slice-read-third c =
-    let s = c .before .before .before .before in
-    let seven = sample-right (now (s .args .x)) (s .pre) .seven in
+    let s = c .before .before .before .before .before in
+    let seven = sample-right (now (s .args .x)) (s .pre .1) .seven in
     search needs
 
 volts-requires : tie.Need-volts-requires
-volts-requires c κs = let s = c .before .before .before .before in omega (arith, sample-right (now (s .args .x)) (s .pre))
+volts-requires c κs =
+    let s = c .before .before .before .before .before in
+    (s .pre .0, omega (arith, sample-right (now (s .args .x)) (s .pre .1)))
 
 cast-a : tie.Need-cast-a
 cast-a c = search needs
 
 volts-requires-2 : tie.Need-volts-requires-2
-volts-requires-2 c κs = let s = c .before .before .before .before .before in omega (arith, sample-right (now (s .args .x)) (s .pre))
+volts-requires-2 c κs =
+    let s = c .before .before .before .before .before .before in
+    (s .pre .0, omega (arith, sample-right (now (s .args .x)) (s .pre .1)))
 
 cast-b : tie.Need-cast-b
 cast-b c = search needs
 
 volts-requires-3 : tie.Need-volts-requires-3
-volts-requires-3 c κs = let s = c .before .before .before .before .before .before in omega (arith, sample-right (now (s .args .x)) (s .pre))
+volts-requires-3 c κs =
+    let s = c .before .before .before .before .before .before .before in
+    (s .pre .0, omega (arith, sample-right (now (s .args .x)) (s .pre .1)))
 
 cast-c : tie.Need-cast-c
 cast-c c = search needs
@@ -56,35 +62,35 @@ larger-requires-2 : tie.Need-larger-requires-2
 larger-requires-2 c κs = search needs
 
 add-sum : tie.Need-add-sum
-add-sum c = let s = c .before .before .before .before .before .before .before .before .before .before .before in omega
-    (arith, sample-right (now (s .args .x)) (s .pre))
+add-sum c = let s = c .before .before .before .before .before .before .before .before .before .before .before .before in omega
+    (arith, sample-right (now (s .args .x)) (s .pre .1))
 
 add-sum-2 : tie.Need-add-sum-2
-add-sum-2 c = let s = c .before .before .before .before .before .before .before .before .before .before .before in omega
-    (arith, sample-right (now (s .args .x)) (s .pre))
+add-sum-2 c = let s = c .before .before .before .before .before .before .before .before .before .before .before .before in omega
+    (arith, sample-right (now (s .args .x)) (s .pre .1))
 
 shared-slice-read-frequency : tie.Need-shared-slice-read-frequency
 shared-slice-read-frequency c =
-    let s = c .before .before .before .before .before .before .before .before .before .before .before .before in
-    let seven = sample-right (now (s .args .x)) (s .pre) .seven in
+    let s = c .before .before .before .before .before .before .before .before .before .before .before .before .before in
+    let seven = sample-right (now (s .args .x)) (s .pre .1) .seven in
     search needs
 
 shared-slice-read-permission : tie.Need-shared-slice-read-permission
 shared-slice-read-permission c =
-    let s = c .before .before .before .before .before .before .before .before .before .before .before .before .before in
-    let seven = sample-right (now (s .args .x)) (s .pre) .seven in
+    let s = c .before .before .before .before .before .before .before .before .before .before .before .before .before .before in
+    let seven = sample-right (now (s .args .x)) (s .pre .1) .seven in
     search needs
 
 shared-slice-read-available : tie.Need-shared-slice-read-available
 shared-slice-read-available c =
-    let s = c .before .before .before .before .before .before .before .before .before .before .before .before .before .before in
-    let seven = sample-right (now (s .args .x)) (s .pre) .seven in
+    let s = c .before .before .before .before .before .before .before .before .before .before .before .before .before .before .before in
+    let seven = sample-right (now (s .args .x)) (s .pre .1) .seven in
     search needs
 
 shared-slice-read-limit : tie.Need-shared-slice-read-limit
 shared-slice-read-limit c =
-    let s = c .before .before .before .before .before .before .before .before .before .before .before .before .before .before .before in
-    let seven = sample-right (now (s .args .x)) (s .pre) .seven in
+    let s = c .before .before .before .before .before .before .before .before .before .before .before .before .before .before .before .before in
+    let seven = sample-right (now (s .args .x)) (s .pre .1) .seven in
     search needs
 
 returns : tie.Need-returns

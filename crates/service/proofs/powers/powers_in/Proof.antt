@@ -1,18 +1,16 @@
 -- `service::powers::powers_in` meets its contract: an accepted sheet's curves rise, and the limits, taken in turn, leave their least
 -- (`Stepping.antt`).
 -- Assumes nothing.
-use mathlib.Core.Path.{_≡_, _∙_}
-use mathlib.Core.Bool.{true}
+use mathlib.Core.Path.{_≡_, sym, _∙_}
+use mathlib.Core.Bool.{true, false}
 use mathlib.Core.List.{[], _∷_}
 use Prim.Native.Nat.{_≤_}
 use native.Mathlib.Omega.{arith}
 use mir.Syntax.{w32}
 use mir.Val.{toZ, ofZ}
-use borrow.Author.Tests.{le-leb, lt-leb}
-use Rattle.rules.specs.Tests.{within}
+use borrow.Author.Tests.{not-true, not-false}
 use Rattle.rules.specs.Curves.{nameplate}
 use Rattle.rules.specs.Service.{exports, recoveryLimit, varsOf, wattsOf}
-use Rattle.basics.proofs.Bools.{true-within}
 use Rattle.laws.proofs.Curves.{var-rises, watt-rises, watt-not-negatives}
 use Rattle.laws.proofs.Least.{inTurn, in-turn-low}
 use Rattle.service.proofs.Stepping.{kept32, vars-on, watts-on}
@@ -20,17 +18,15 @@ use borrow.Author.Needs.{needs}
 use Rattle.service.proofs.powers.powers_in.Statement.{statement}
 use Rattle.service.proofs.powers.powers_in.Tie as tie
 
-returns : tie.Need-returns
-unfolding varsOf wattsOf within
-returns c =
-    (λ e x q. simp (lt-leb _ _ (c .if1 .taken)), ((λ e x q. simp (lt-leb _ _ (c .if1 .taken))), (omega arith, omega arith)))
+gives-power-requires : tie.Need-gives-power-requires
+gives-power-requires c κs = search needs
 
-returns-2 : tie.Need-returns-2
-unfolding varsOf wattsOf within
-returns-2 c =
-    let low = c .before .if1 .left in
-    let high = c .if2 .taken in
-    (λ e x q. simp (le-leb _ _ low, lt-leb _ _ high), ((λ e x q. simp (le-leb _ _ low, lt-leb _ _ high)), (omega arith, omega arith)))
+returns : tie.Need-returns
+unfolding varsOf wattsOf
+returns c =
+    let given = c .before .gives-power in
+    let off : exports (c .before .before .args .status) ≡ false = sym (given .ensures) ∙ not-true (given .result) (c .if1 .taken) in
+    (λ e x q. rw off, ((λ e x q. rw off), (omega arith, omega arith)))
 
 volt-var-requires : tie.Need-volt-var-requires
 volt-var-requires c κs =
@@ -54,8 +50,8 @@ within-nameplate-requires c κs = search needs
 within-recovery-requires : tie.Need-within-recovery-requires
 within-recovery-requires c κs = search needs
 
-returns-3 : tie.Need-returns-3
-returns-3 c =
+returns-2 : tie.Need-returns-2
+returns-2 c =
     let rated = c .before in
     let flat = rated .before in
     let first = flat .before in
@@ -64,7 +60,8 @@ returns-3 c =
     let tests = first .before .before .before .before .before .before in
     let a = tests .before .before .args in
     let pre = tests .before .before .pre in
-    let on : exports (a .status) ≡ true = true-within 1 3 (a .status) (tests .before .if1 .left) (tests .if2 .left) in
+    let given = tests .before .gives-power in
+    let on : exports (a .status) ≡ true = sym (given .ensures) ∙ not-false (given .result) (tests .if1 .left) in
     let same : toZ w32 (ofZ w32 (vars .result)) ≡ vars .result = kept32 (vars .result) (vars .ensures .1) in
     let others = curve .result ∷ nameplate (vars .result) ∷ recoveryLimit (a .recovery) ∷ [] in
     let begin = first .first-limits in
@@ -84,12 +81,12 @@ pub powers-in-spec : {M : Type 1} → statement M
 powers-in-spec =
     tie.close
     (tie.spec
+    gives-power-requires
     returns
-    returns-2
     volt-var-requires
     volt-watt-requires
     first-limits-requires
     smaller-requires
     within-nameplate-requires
     within-recovery-requires
-    returns-3)
+    returns-2)

@@ -1,69 +1,29 @@
--- `service::step::step` meets its contract: refused settings change nothing, and under accepted ones the sample decides.
+-- `service::step::step` meets its contract: our table is lent.
 -- Assumes nothing.
-use mathlib.Core.Path.{_≡_, sym, ap, _∙_}
-use mathlib.Core.List.{_++_}
+use mathlib.Core.Path.{_∙_}
 use denote.Ref.{now}
-use Rattle.rules.specs.Settings.{settingsPassed}
 use Rattle.rules.specs.Regions.{ourEquipment, equippedWith}
-use Rattle.rules.specs.Samples.{Slice}
-use Rattle.rules.specs.Refusals.{answerNumber}
-use Rattle.rules.specs.Records.{stepOf}
-use Rattle.rules.specs.declared.Board.{Board}
-use Rattle.rules.specs.declared.Settings.{Settings}
-use Rattle.rules.specs.declared.Stepped.{Stepped}
-use Rattle.causes.specs.FirstCause.{first, settingsCauses, sampleCauses}
 use Rattle.laws.proofs.Alike.{step-alike}
-use Rattle.laws.proofs.FirstCause.{step-number}
-use Rattle.service.proofs.Stepping.{settings-refused}
-use Rattle.service.proofs.OurTable.{table-alike}
+use Rattle.sensing.proofs.OurTable.{table-alike}
 use borrow.Author.Needs.{needs}
 use Rattle.service.proofs.step.step.Statement.{statement}
 use Rattle.service.proofs.step.step.Tie as tie
 
--- the step, and so the number of its answer
-promised : (b : Board) (s : Settings) (x : Slice) (t : Stepped) → t ≡ stepOf ourEquipment b s x
-    → (t ≡ stepOf ourEquipment b s x) × (answerNumber (t .answer) ≡ first (settingsCauses s ++ sampleCauses x))
-promised b s x t e = (e, ap (λ (u : Stepped). answerNumber (u .answer)) e ∙ step-number ourEquipment b s x)
-
-check-requires : tie.Need-check-requires
-check-requires c κs = search needs
-
-enum-known-cause : tie.Need-enum-known-cause
-enum-known-cause c = search needs
-
-enum-told : tie.Need-enum-told
-enum-told c = search needs
-
 table-requires : tie.Need-table-requires
 table-requires c κs = search needs
 
-step-accepted-requires : tie.Need-step-accepted-requires
-step-accepted-requires c κs =
-    ap settingsPassed (sym (c .before .before .before .before .check .ensures .0) ∙ c .before .before .enum-told .given .1)
+slice-aggregate-step-by : tie.Need-slice-aggregate-step-by
+slice-aggregate-step-by c = search needs
+
+step-by-requires : tie.Need-step-by-requires
+step-by-requires c κs = search needs
 
 returns : tie.Need-returns
 returns c =
-    let s = c .before .before .before .before .before in
-    promised (s .args .b) (s .args .s) (now (s .args .x)) _
-    (sym (settings-refused ourEquipment (s .args .s) (now (s .args .x)) (s .args .b) _ _
-    (sym (c .before .before .before .check .ensures .0) ∙ c .before .cause .given .1)))
-
-returns-2 : tie.Need-returns-2
-returns-2 c =
-    let s = c .before .before .before .before .before .before .before in
     let t = c .before .before .table in
-    promised (s .args .b) (s .args .s) (now (s .args .x)) _
-    (c .step-accepted .ensures
-    ∙ step-alike (equippedWith (t .result)) ourEquipment (table-alike (t .result) (t .ensures)) (s .args .b) (s .args .s) (now (s .args .x)))
+    let a = c .before .before .before .before .args in
+    let is = c .step-by .ensures in
+    (is .0 ∙ step-alike (equippedWith (t .result)) ourEquipment (table-alike (t .result) (t .ensures)) (a .b) (a .s) (now (a .x)), is .1)
 
 pub step-spec : {M : Type 1} → statement M
-step-spec =
-    tie.close
-    (tie.spec
-    check-requires
-    enum-known-cause
-    enum-told
-    table-requires
-    step-accepted-requires
-    returns
-    returns-2)
+step-spec = tie.close (tie.spec table-requires slice-aggregate-step-by step-by-requires returns)

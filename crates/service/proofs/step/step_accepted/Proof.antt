@@ -23,30 +23,30 @@ enum-told c = search needs
 
 read-requires : tie.Need-read-requires
 read-requires c κs =
-    ap samplePassed (sym (c .before .before .check .ensures) ∙ c .enum-told .given .1)
+    (c .before .before .before .before .before .pre .0, ap samplePassed (sym (c .before .before .check .ensures) ∙ c .enum-told .given .1))
 
 advance-requires : tie.Need-advance-requires
 advance-requires c κs =
-    let s = c .before .before .before .before .before in
+    let s = c .before .before .before .before .before .before in
     let ok : sampleAccepted (now (s .args .x)) ≡ true = ap samplePassed (sym (c .before .before .before .check .ensures) ∙ c .before .enum-told .given .1) in
     let right = sample-right (now (s .args .x)) ok in
-    rw (c .read .ensures) (record { sheet = s .pre; frequency-top = right .frequency-high; available-top = right .available-top; limit-top = right .limit-top })
+    rw (c .read .ensures) (record { sheet = s .pre .1; frequency-top = right .frequency-high; available-top = right .available-top; limit-top = right .limit-top })
 
 returns : tie.Need-returns
 returns c =
-    let s = c .before .before .before .before .before in
+    let s = c .before .before .before .before .before .before in
     let e = equippedWith (now (s .args .table)) in
     let refused = sym (c .before .before .before .check .ensures) ∙ c .before .cause .given .1 in
-    sym (sample-refused e (s .args .s) (now (s .args .x)) (s .args .b) _ (s .pre) refused)
+    sym (sample-refused e (s .args .s) (now (s .args .x)) (s .args .b) _ (s .pre .1) refused)
 
 returns-2 : tie.Need-returns-2
 returns-2 c =
-    let s = c .before .before .before .before .before .before in
+    let s = c .before .before .before .before .before .before .before in
     let ok : sampleAccepted (now (s .args .x)) ≡ true
     = ap samplePassed (sym (c .before .before .before .before .check .ensures) ∙ c .before .before .enum-told .given .1) in
     let e = equippedWith (now (s .args .table)) in
     c .advance .ensures e (now (s .args .x)) refl (sym (c .before .read .ensures))
-    ∙ sym (accepted-step e (s .args .b) (s .args .s) (now (s .args .x)) (s .pre) ok)
+    ∙ sym (accepted-step e (s .args .b) (s .args .s) (now (s .args .x)) (s .pre .1) ok)
 
 pub step-accepted-spec : {M : Type 1} → statement M
 step-accepted-spec =
