@@ -15,8 +15,9 @@ use Rattle.rules.specs.Droop.{sideOf, drooped}
 use Rattle.rules.specs.Service.{varsOf, wattsOf}
 use Rattle.rules.specs.History.{streak, serving, climbed, sinceCessation, historyStatus, historyShare, historyRecovery, historySide, wattsHolding, historyHeld, historyWatts, historyVars, historyReport}
 use Rattle.rules.specs.declared.Settings.{Settings}
-use Rattle.explain.specs.Numbers.{statusRuleNumber, limitPlace, wattsRuleNumber}
-use Rattle.explain.specs.Explained.{regionCause, historyStatusRule, historyWattsRule}
+use Rattle.reasons.specs.Numbers.{statusRuleNumber, limitPlace, wattsRuleNumber}
+use Rattle.explain.specs.Explained.{historyStatusRule, historyWattsRule}
+use Rattle.statusrules.specs.StatusRules.{regionCause}
 use Rattle.explain.specs.Explains.{NamesStatusRule, NamesWattsRule}
 use Rattle.explain.proofs.Naming.{one-status-rule, one-watts-rule}
 use Rattle.demands.specs.Shams.{exampleSheet}

@@ -73,8 +73,8 @@ use Rattle.claims.specs.Printed.{sampleOn, printedStatus, PrintsByHistory}
 use Rattle.carryover.specs.Carries.{CarryOperation, ourForward, ourBack, AllBytes, CarryRefusedRightly, CarryNumbered, RoundTrips, CarriesRecords, CarriesHistoriesBack}
 use Rattle.explain.specs.Explained.{historyStatusRule, historyWattsRule}
 use Rattle.explain.specs.Explains.{Explaining, explainedBy, boardAlone, ShowsRules, LeavesReports, NamesStatusRule, NamesWattsRule, NamesOnRecords, NumbersTell}
-use Rattle.explain.specs.declared.StatusRule.{StatusRule}
-use Rattle.explain.specs.declared.WattsRule.{WattsRule}
+use Rattle.reasons.specs.declared.StatusRule.{StatusRule}
+use Rattle.reasons.specs.declared.WattsRule.{WattsRule}
 use Rattle.replay.specs.Replays.{groups, replayed, replayedInto}
 use Rattle.replay.specs.Demanded.{GroupsBySeven, ReplaysRightly}
 use Rattle.saltdelta.specs.Answers.{sheetAnswer, settingsAfter}

@@ -12,9 +12,11 @@ use Rattle.rules.specs.Service.{Limited, exports, firstLimits, leftBy}
 use Rattle.rules.specs.History.{History, complete, serving, historyStatus, historyReport}
 use Rattle.rules.specs.declared.Settings.{Settings}
 use Rattle.rules.specs.declared.Region.{Region}
-use Rattle.explain.specs.Explained.{limitNamed, firstWorst, historyStatusRule, lastLimits, wattsRule, historyLimits, historyWattsRule}
-use Rattle.explain.specs.declared.StatusRule.{StatusRule}
-use Rattle.explain.specs.declared.WattsRule.{WattsRule}
+use Rattle.explain.specs.Explained.{historyStatusRule, historyLimits, historyWattsRule}
+use Rattle.wattsrules.specs.WattsRules.{limitNamed, lastLimits, wattsRule}
+use Rattle.statusrules.specs.StatusRules.{firstWorst}
+use Rattle.reasons.specs.declared.StatusRule.{StatusRule}
+use Rattle.reasons.specs.declared.WattsRule.{WattsRule}
 
 -- ---- of a status
 

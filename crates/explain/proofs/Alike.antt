@@ -17,9 +17,10 @@ use Rattle.laws.proofs.Accepted.{SampleRight, sample-right}
 use Rattle.laws.proofs.Alike.{lowest-alike, highest-alike, mean-alike, region-alike, trips-alike, step-alike}
 use Rattle.laws.proofs.SameRules.{full-same}
 use Rattle.laws.proofs.Steps.{refused-step}
-use Rattle.explain.specs.Explained.{statusRule, regionCause, recordStatusRule, recordWattsRule, withRules, explainedStep}
-use Rattle.explain.specs.declared.StatusRule.{StatusRule}
-use Rattle.explain.specs.declared.WattsRule.{WattsRule}
+use Rattle.explain.specs.Explained.{recordStatusRule, recordWattsRule, withRules, explainedStep}
+use Rattle.statusrules.specs.StatusRules.{statusRule, regionCause}
+use Rattle.reasons.specs.declared.StatusRule.{StatusRule}
+use Rattle.reasons.specs.declared.WattsRule.{WattsRule}
 use Rattle.explain.specs.declared.ExplainedStep.{ExplainedStep}
 use Rattle.explain.proofs.Alone.{explained-from}
 

@@ -19,8 +19,8 @@ use Rattle.service.proofs.Stepping.{settings-refused}
 use Rattle.explain.specs.Numbers.{explainedNumber}
 use Rattle.explain.specs.Explained.{recordStatusRule, recordWattsRule, withRules, explainedStep}
 use Rattle.explain.specs.Explains.{answerAlone, LeavesReports, explainedBy}
-use Rattle.explain.specs.declared.StatusRule.{StatusRule}
-use Rattle.explain.specs.declared.WattsRule.{WattsRule}
+use Rattle.reasons.specs.declared.StatusRule.{StatusRule}
+use Rattle.reasons.specs.declared.WattsRule.{WattsRule}
 use Rattle.explain.specs.declared.ExplainedAnswer.{ExplainedAnswer}
 
 pub alone : (status : StatusRule) (watts : WattsRule) (a : Answer) → answerAlone (withRules status watts a) ≡ a

@@ -11,7 +11,7 @@ use Rattle.rules.specs.Tests.{any}
 use Rattle.rules.specs.Samples.{Equipment}
 use Rattle.rules.specs.Counters.{Rule, Kind, undervoltage, limitRule, limitRules}
 use Rattle.rules.specs.declared.Settings.{Settings}
-use Rattle.explain.specs.Explained.{firstPlace}
+use Rattle.statusrules.specs.StatusRules.{firstPlace}
 
 -- the test at this place passes, and none before it does
 pub record IsFirst (tests : List Bool) (i : ℕ) : Type 0 where

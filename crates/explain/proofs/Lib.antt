@@ -1,7 +1,3 @@
-pub mod Places
-pub mod Causes
-pub mod Binding
-pub mod Widened
 pub mod Stepped
 pub mod Alone
 pub mod Alike

@@ -21,8 +21,8 @@ use Rattle.theorems.proofs.Trip.{complete-held, ran-out, trip-law, return-law}
 use Rattle.theorems.proofs.Demand2.{service-of}
 use Rattle.explain.specs.Explained.{historyStatusRule, historyWattsRule}
 use Rattle.explain.specs.Explains.{servesAfter, StatusNamed, NamesStatusRule, WattsNamed, NamesWattsRule}
-use Rattle.explain.specs.declared.StatusRule.{StatusRule}
-use Rattle.explain.specs.declared.WattsRule.{WattsRule}
+use Rattle.reasons.specs.declared.StatusRule.{StatusRule}
+use Rattle.reasons.specs.declared.WattsRule.{WattsRule}
 use Rattle.explain.proofs.FirstPlaces.{limit-test}
 use Rattle.explain.proofs.StatusRules.{status-named, one-named}
 use Rattle.explain.proofs.WattsRules.{watts-named, one-watts-named}

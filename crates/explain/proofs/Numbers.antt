@@ -4,10 +4,10 @@ use mathlib.Core.Path.{_≡_, refl, sym, ap, ap₂, _∙_}
 use mathlib.Core.List.{[], _∷_}
 use Prim.Native.Nat.{ℕ, _-_}
 use lib.ListN.{getD}
-use Rattle.explain.specs.Numbers.{statusRuleNumber, limitPlace, wattsRuleNumber}
+use Rattle.reasons.specs.Numbers.{statusRuleNumber, limitPlace, wattsRuleNumber}
 use Rattle.explain.specs.Explains.{NumbersTell}
-use Rattle.explain.specs.declared.StatusRule.{StatusRule}
-use Rattle.explain.specs.declared.WattsRule.{WattsRule}
+use Rattle.reasons.specs.declared.StatusRule.{StatusRule}
+use Rattle.reasons.specs.declared.WattsRule.{WattsRule}
 
 -- the rules in the order of their numbers, from 1
 abbrev statusOf : ℕ → ℕ → StatusRule

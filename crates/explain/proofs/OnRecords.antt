@@ -22,10 +22,12 @@ use Rattle.rules.specs.declared.Answer.{Answer}
 use Rattle.claims.specs.Bits.{bitAt}
 use Rattle.theorems.proofs.Bits.{bits-unpacked}
 use Rattle.laws.proofs.Statuses.{service-status, kept-service}
-use Rattle.explain.specs.Explained.{statusRule, wattsRule, regionCause, recordStatusRule, recordWattsRule, withRules, explainedStep}
+use Rattle.explain.specs.Explained.{recordStatusRule, recordWattsRule, withRules, explainedStep}
+use Rattle.statusrules.specs.StatusRules.{statusRule, regionCause}
+use Rattle.wattsrules.specs.WattsRules.{wattsRule}
 use Rattle.explain.specs.Explains.{answerAlone, StatusNamed, WattsNamed, NamesOnRecords, explainedBy}
-use Rattle.explain.specs.declared.StatusRule.{StatusRule}
-use Rattle.explain.specs.declared.WattsRule.{WattsRule}
+use Rattle.reasons.specs.declared.StatusRule.{StatusRule}
+use Rattle.reasons.specs.declared.WattsRule.{WattsRule}
 use Rattle.explain.specs.declared.ExplainedAnswer.{ExplainedAnswer}
 use Rattle.explain.proofs.Alone.{alone}
 use Rattle.explain.proofs.Stepped as of

@@ -24,10 +24,11 @@ use Rattle.theorems.proofs.Counting.{full-is, each-of}
 use Rattle.theorems.proofs.Trace.{counters-are, service-is, ramp-is, recovery-is, held-is, next-is, status-is, vars-is, shown-is}
 use Rattle.theorems.proofs.Demand2.{fresh-is, run-is}
 use Rattle.laws.proofs.Steps.{accepted-step, refused-step}
-use Rattle.explain.specs.Explained.{statusRule, regionCause, historyStatusRule, historyWattsRule, recordStatusRule, recordWattsRule, explainedStep}
+use Rattle.explain.specs.Explained.{historyStatusRule, historyWattsRule, recordStatusRule, recordWattsRule, explainedStep}
+use Rattle.statusrules.specs.StatusRules.{statusRule, regionCause}
 use Rattle.explain.specs.Explains.{boardAlone, explainedBy, explainedTo, explainedHistory, ShowsRules}
-use Rattle.explain.specs.declared.StatusRule.{StatusRule}
-use Rattle.explain.specs.declared.WattsRule.{WattsRule}
+use Rattle.reasons.specs.declared.StatusRule.{StatusRule}
+use Rattle.reasons.specs.declared.WattsRule.{WattsRule}
 use Rattle.explain.specs.declared.ExplainedAnswer.{ExplainedAnswer}
 use Rattle.explain.specs.declared.ExplainedStep.{ExplainedStep}
 use Rattle.explain.specs.Numbers.{explainedNumber}

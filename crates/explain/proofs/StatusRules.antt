@@ -14,10 +14,10 @@ use Rattle.rules.specs.Regions.{frequencyRegion, rank, worse, regionIn, regionO
 use Rattle.rules.specs.declared.Region.{Region}
 use Rattle.rules.specs.declared.Region.the-variants.{Continuous, Mandatory, Momentary, Cease}
 use Rattle.laws.proofs.Regions.{rank-worst}
-use Rattle.explain.specs.Explained.{firstPlace, sameRegion, regionCause, statusRule}
+use Rattle.statusrules.specs.StatusRules.{firstPlace, sameRegion, regionCause, statusRule}
 use Rattle.rules.specs.declared.Settings.{Settings}
 use Rattle.explain.specs.Explains.{LowestHas, HighestHas, FrequencyHas, StatusNamed}
-use Rattle.explain.specs.declared.StatusRule.{StatusRule}
+use Rattle.reasons.specs.declared.StatusRule.{StatusRule}
 use Rattle.explain.proofs.FirstPlaces.{IsFirst, place-of, test-at, some-place, any-at}
 
 -- ---- the cause of a region

@@ -32,9 +32,11 @@ use Rattle.laws.proofs.Steps.{accepted-step, refused-step}
 use Rattle.powerlaws.proofs.CurveLaws.{curve-small}
 use Rattle.powerlaws.proofs.PointLists.{powers-small}
 use Rattle.service.proofs.Stepping.{each-length, full-last}
-use Rattle.explain.specs.Explained.{statusRule, wattsRule, regionCause, recordStatusRule, recordWattsRule, withRules, explainedStep}
-use Rattle.explain.specs.declared.StatusRule.{StatusRule}
-use Rattle.explain.specs.declared.WattsRule.{WattsRule}
+use Rattle.explain.specs.Explained.{recordStatusRule, recordWattsRule, withRules, explainedStep}
+use Rattle.statusrules.specs.StatusRules.{statusRule, regionCause}
+use Rattle.wattsrules.specs.WattsRules.{wattsRule}
+use Rattle.reasons.specs.declared.StatusRule.{StatusRule}
+use Rattle.reasons.specs.declared.WattsRule.{WattsRule}
 use Rattle.explain.specs.declared.ExplainedStep.{ExplainedStep}
 
 -- ---- what a step leaves

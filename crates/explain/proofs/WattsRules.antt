@@ -16,12 +16,12 @@ use Rattle.rules.specs.Service.{PowerLimit, availablePower, operatorsLimit, ram
 use Rattle.rules.specs.Service.{Limited, powerLimits, leftBy, exports, varsOf, wattsOf}
 use Rattle.rules.specs.declared.Settings.{Settings}
 use Rattle.rules.specs.declared.Report.{Report}
-use Rattle.explain.specs.Numbers.{wattsRuleNumber}
-use Rattle.explain.specs.Explained.{limitNamed, firstLeaving, wattsRule}
+use Rattle.reasons.specs.Numbers.{wattsRuleNumber}
+use Rattle.wattsrules.specs.WattsRules.{limitNamed, firstLeaving, wattsRule}
 use Rattle.explain.specs.Explains.{NamedLimit, ruleLeaves, namedLimits, FirstOf, WattsNamed}
-use Rattle.explain.specs.declared.WattsRule.{WattsRule}
+use Rattle.reasons.specs.declared.WattsRule.{WattsRule}
 use Rattle.laws.proofs.Events.{some-limits}
-use Rattle.explain.proofs.Binding.{stops, passes, others-leave}
+use Rattle.wattsrules.proofs.Binding.{stops, passes, others-leave}
 
 -- the limits of a list, each by its rule
 abbrev byRule : Limited → NamedLimit

@@ -28,10 +28,10 @@ use Rattle.claims.specs.Bits.{bitAt}
 use Rattle.causes.specs.FirstCause.{first, settingsCauses, sampleCauses}
 use Rattle.claims.specs.Held.{Held, brokenAt, WaitFull}
 use Rattle.claims.specs.TripAndReturn.{Next}
-use Rattle.explain.specs.Numbers.{statusRuleNumber, limitPlace, wattsRuleNumber}
+use Rattle.reasons.specs.Numbers.{statusRuleNumber, limitPlace, wattsRuleNumber}
 use Rattle.explain.specs.Explained.{historyStatusRule, historyWattsRule, explainedStep, freshAnswer}
-use Rattle.explain.specs.declared.StatusRule.{StatusRule}
-use Rattle.explain.specs.declared.WattsRule.{WattsRule}
+use Rattle.reasons.specs.declared.StatusRule.{StatusRule}
+use Rattle.reasons.specs.declared.WattsRule.{WattsRule}
 use Rattle.explain.specs.declared.ExplainedAnswer.{ExplainedAnswer}
 use Rattle.explain.specs.declared.ExplainedStep.{ExplainedStep}
 

@@ -1,4 +1,3 @@
 pub mod Numbers
 pub mod Explained
-pub mod Places
 pub mod Explains

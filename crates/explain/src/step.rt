@@ -10,16 +10,16 @@ ghost use Rattle.explain.specs.Explained.{explainedStep};
 ghost use Rattle.explain.specs.Numbers.{explainedNumber};
 use crate::ExplainedAnswer;
 use crate::ExplainedStep;
-use crate::status::status_rule;
-use crate::watts::watts_rule;
 use readings::reading::read;
 use rules::Answer;
 use rules::Board;
 use rules::Settings;
 use rules::SettingsCheck;
 use sensing::table;
-use service::statuses::in_service;
 use service::step_accepted;
+use serving::in_service;
+use statusrules::status_rule;
+use wattsrules::watts_rule;
 
 // The step under settings that are accepted and with a sensing table lent.
 fn explained(table: &[u16], b: Board, s: Settings, x: &[u32]) -> ExplainedStep

@@ -1,3 +1,2 @@
-// What a reading does to the board: the nine counters (spec 6.1 to 6.6) and the operating region (spec 6.7 to 6.9).
-pub mod counters;
+// The operating region of a reading (spec 6.7 to 6.9).
 pub mod regions;

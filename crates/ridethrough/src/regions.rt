@@ -3,7 +3,7 @@ ghost use mathlib.Core.Path.{_≡_};
 ghost use mathlib.Core.Bool.{true};
 ghost use Rattle.rules.specs.Regions.{voltageRegion, frequencyRegion, rank, worse};
 ghost use Rattle.rules.specs.declared.Region.the-variants.{Continuous};
-ghost use Rattle.ridethrough.specs.Rules.{regionAt};
+ghost use Rattle.ridethrough.specs.Regions.{regionAt};
 use numbers::within;
 use readings::reading::Reading;
 use rules::Region;

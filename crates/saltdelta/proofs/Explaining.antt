@@ -16,8 +16,8 @@ use Rattle.rules.specs.declared.Refusal.{Refusal}
 use Rattle.basics.proofs.Refusals.{number-bounds}
 use Rattle.explain.specs.Numbers.{explainedNumber}
 use Rattle.explain.specs.Explained.{explainedStep}
-use Rattle.explain.specs.declared.StatusRule.{StatusRule}
-use Rattle.explain.specs.declared.WattsRule.{WattsRule}
+use Rattle.reasons.specs.declared.StatusRule.{StatusRule}
+use Rattle.reasons.specs.declared.WattsRule.{WattsRule}
 use Rattle.explain.specs.declared.ExplainedAnswer.{ExplainedAnswer}
 use Rattle.explain.specs.declared.ExplainedStep.{ExplainedStep}
 use Rattle.causes.specs.Calls.{Program, runOf}

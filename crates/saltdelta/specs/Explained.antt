@@ -9,10 +9,10 @@ use Rattle.rules.specs.History.{History, historyReport}
 use Rattle.rules.specs.declared.Board.{Board}
 use Rattle.rules.specs.declared.Report.{Report}
 use Rattle.rules.specs.declared.Settings.{Settings}
-use Rattle.explain.specs.Numbers.{statusRuleNumber, limitPlace, wattsRuleNumber}
+use Rattle.reasons.specs.Numbers.{statusRuleNumber, limitPlace, wattsRuleNumber}
 use Rattle.explain.specs.Explained.{historyStatusRule, historyWattsRule, explainedStep}
-use Rattle.explain.specs.declared.StatusRule.{StatusRule}
-use Rattle.explain.specs.declared.WattsRule.{WattsRule}
+use Rattle.reasons.specs.declared.StatusRule.{StatusRule}
+use Rattle.reasons.specs.declared.WattsRule.{WattsRule}
 use Rattle.explain.specs.declared.ExplainedAnswer.{ExplainedAnswer}
 use Rattle.causes.specs.Calls.{Call, freshReport, runOf, acceptedSamples}
 use Rattle.claims.specs.TripAndReturn.{Next}

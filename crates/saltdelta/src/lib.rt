@@ -13,11 +13,11 @@ ghost use Rattle.saltdelta.specs.Explained.{inNumbers, explainedFresh, e
 use carryover::CarryAnswer;
 use carryover::carry_number;
 use explain::ExplainedAnswer;
-use explain::StatusRule;
-use explain::WattsRule;
-use explain::limit_place;
-use explain::status_rule_number;
-use explain::watts_rule_number;
+use reasons::StatusRule;
+use reasons::WattsRule;
+use reasons::limit_place;
+use reasons::status_rule_number;
+use reasons::watts_rule_number;
 use rules::Answer;
 use rules::Board;
 use rules::Refusal;

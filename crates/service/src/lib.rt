@@ -1,7 +1,5 @@
 // The by-value step: spec 6 to 8. Its public operations are `fresh`, `fresh_report` and `step::step`; the rest is for the
 // crates above.
-pub mod powers;
-pub mod statuses;
 pub mod step;
 
 pub use step::fresh;

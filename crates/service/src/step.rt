@@ -1,34 +1,30 @@
 // Spec 4.3, 6 to 8: the step, by value.
 ghost use mathlib.Core.Path.{_≡_};
-ghost use mathlib.Core.Bool.{Bool, true, cond};
-ghost use mathlib.Core.List.{List, [], _∷_, _++_};
-ghost use Prim.Native.Nat.{_*_, _/_, _≤_, min};
+ghost use mathlib.Core.Bool.{true};
+ghost use mathlib.Core.List.{_++_};
+ghost use Prim.Native.Nat.{_/_, _≤_};
 ghost use lib.ListN.{length};
-ghost use Rattle.rules.specs.Tests.{any};
 ghost use Rattle.rules.specs.Settings.{settingsAccepted};
 ghost use Rattle.rules.specs.Samples.{Slice, Equipment};
-ghost use Rattle.rules.specs.Regions.{voltageRegion, regionOf, isContinuous, ourEquipment, equippedWith};
+ghost use Rattle.rules.specs.Regions.{voltageRegion, regionOf, ourEquipment, equippedWith};
 ghost use Rattle.rules.specs.Droop.{sideAfter};
-ghost use Rattle.rules.specs.Service.{serves, ramped, statusOf};
 ghost use Rattle.rules.specs.Refusals.{answerNumber};
-ghost use Rattle.rules.specs.Reports.{packedAfter};
 ghost use Rattle.rules.specs.Records.{fresh, settled, next, stepOf};
 ghost use Rattle.causes.specs.FirstCause.{first, settingsCauses, sampleCauses};
 ghost use Rattle.readings.specs.Readings.{readingOf, Exportable};
 ghost use Rattle.causes.specs.Calls.{freshReport};
 ghost use Rattle.service.specs.Steps.{Bits, reported};
-use crate::powers::powers_in;
-use crate::statuses::in_service;
+use counters::Counters;
+use counters::count_all;
+use counters::in_range;
 use droop::held_after;
 use droop::side_after;
+use output::powers_in;
 use readings::reading::Reading;
 use readings::reading::check;
 use readings::reading::read;
 use recovery::ceases;
 use recovery::recovery_after;
-use ridethrough::counters::Counters;
-use ridethrough::counters::count_all;
-use ridethrough::counters::in_range;
 use ridethrough::regions::region;
 use rules::Answer;
 use rules::Board;
@@ -40,6 +36,12 @@ use rules::Settings;
 use rules::SettingsCheck;
 use rules::Stepped;
 use sensing::table;
+use serving::in_service;
+use serving::in_service_after;
+use serving::is_continuous;
+use serving::ramp_after;
+use serving::share;
+use serving::status_of;
 
 // A fresh board (spec 5.3): tripped, with a full recovery count and all else 0.
 pub fn fresh() -> Board
@@ -71,78 +73,6 @@ pub fn fresh_report() -> Report
         watts: 0,
         vars: 0,
     }
-}
-
-// Spec 6.10, 6.12: in service after the step. The lowest of the nine bits is ready, the others are the limits'.
-fn in_service_after(was: bool, permit: bool, bits: u16) -> bool
-    ensures { λ r. ⌜ ((trips : List Bool) (ready : Bool) → bits ≡ packedAfter 0 (trips ++ (ready ∷ [])) → r ≡ serves was permit (any trips) ready) ⌝ }
-{
-    if was {
-        if !permit {
-            return false;
-        }
-        return bits < 2;
-    }
-    bits % 2 == 1
-}
-
-fn is_continuous(region: Region) -> bool
-    ensures { λ r. ⌜ r ≡ isContinuous region ⌝ }
-{
-    match region {
-        Region::Continuous => true,
-        Region::Mandatory => false,
-        Region::Momentary => false,
-        Region::Cease => false,
-    }
-}
-
-// Spec 6.11, 6.12: the ramp count after the step, from the count as lent (spec 5.4).
-fn ramp_after(was: bool, on: bool, continuous: bool, length: u32, old: u32) -> u32
-    ensures { λ r. ⌜ r ≡ ramped was on continuous length (cond was (min length old) 0) ⌝ }
-{
-    if !on {
-        return 0;
-    }
-    if !was {
-        return 0;
-    }
-    if length <= old {
-        return length;
-    }
-    if continuous { old + 1 } else { old }
-}
-
-// Spec 6.13.
-fn status_of(on: bool, region: Region, full: bool) -> u8
-    ensures { λ r. ⌜ r ≡ statusOf on region full ⌝ }
-{
-    if !on {
-        return 0;
-    }
-    match region {
-        Region::Continuous => {
-            if full {
-                return 2;
-            }
-            1
-        }
-        Region::Mandatory => 3,
-        Region::Momentary => 4,
-        Region::Cease => 5,
-    }
-}
-
-// Spec 6.14. No division where the ramp is full.
-fn share(ramp: u32, length: u32) -> u32
-    requires { ⌜ (ramp ≤ length) × (1 ≤ length) × (length ≤ 60000) ⌝ }
-    ensures { λ r. ⌜ r ≡ 10000 * ramp / length ⌝ }
-    ensures { λ r. ⌜ r ≤ 10000 ⌝ }
-{
-    if ramp == length {
-        return 10000;
-    }
-    10000 * ramp / length
 }
 
 // Spec 6.13 to 8.1: the record and the report, from the counters, in service, the region, the ramp count, the recovery count, the side and the

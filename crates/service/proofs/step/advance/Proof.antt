@@ -4,7 +4,7 @@ use mathlib.Core.Path.{_≡_, sym, ap, _∙_}
 use native.Mathlib.Omega.{arith}
 use lib.ListN.{length}
 use Rattle.laws.proofs.Shares.{read-top, ramp-top}
-use Rattle.ridethrough.proofs.Ordinary.{ordinary}
+use Rattle.service.proofs.Ordinary.{continuous}
 use Rattle.service.specs.Steps.{reported}
 use Rattle.service.proofs.Stepping.{Found, Promised, region-found, bits-found, advance-is}
 use borrow.Author.Needs.{needs}
@@ -28,7 +28,7 @@ in-service-after-requires c κs = search needs
 region-requires : tie.Need-region-requires
 region-requires c κs =
     let start = c .before .before .before .before .before in
-    λ t. ordinary (start .args .r) (start .args .s) (start .pre .sheet) (sym (c .before .before .before .in-range .ensures) ∙ t) .continuous
+    λ t. continuous (start .args .r) (start .args .s) (start .pre .sheet) (sym (c .before .before .before .in-range .ensures) ∙ t)
 
 is-continuous-requires : tie.Need-is-continuous-requires
 is-continuous-requires c κs = search needs

@@ -9,7 +9,7 @@ use Rattle.rules.specs.Droop.{sideAfter}
 use Rattle.rules.specs.Reports.{reportOf}
 use Rattle.rules.specs.Records.{settled, shown}
 use Rattle.readings.specs.declared.reading.Reading.{Reading}
-use Rattle.service.proofs.Stepping.{kept32, kept16}
+use Rattle.output.proofs.OnReading.{kept32, kept16}
 use borrow.Author.Needs.{needs}
 use Rattle.service.proofs.step.settle.Statement.{statement}
 use Rattle.service.proofs.step.settle.Tie as tie

@@ -1,0 +1,2 @@
+pub mod StatusRules
+pub mod Places

@@ -1,0 +1,2 @@
+pub mod Binding
+pub mod Widened
