@@ -6,7 +6,8 @@ cd "$(dirname "$0")/.." || exit 2
 passed=0
 failed=0
 main=crates/board/src/main.rt
-stdio=crates/board/src/stdio.rt
+loop=crates/console/src/lib.rt
+stdio=crates/console/src/stdio.rt
 
 # The code without its comments and contracts.
 code() { grep -vE '^ *(//|ghost |requires|ensures)' "$@"; }
@@ -25,28 +26,31 @@ expect() {
 }
 
 # All calls of C stand in stdio.rt: one read, one write, and `io::count`, which makes no call.
-expect 0 'libc::' $main
-expect 0 ' io::' $main
+expect 0 'libc::' $main $loop
+expect 0 ' io::' $main $loop
 expect 1 'libc::read(' $stdio
 expect 0 'libc::write(' $stdio
 expect 1 'io::write_all(' $stdio
 expect 2 ' io::' $stdio
 
 # The loop goes to each of them from one place, and `main` runs it once. (A function's own line is the other.)
-expect 1 'read_to(buf' $main
-expect 1 'hand_over(&out' $main
-expect 2 ' say(' $main
-expect 2 ' answer(' $main
-expect 1 'fn run(' $main
-expect 1 '    run(&mut buf, &mut out);' $main
-expect 1 'Input::unread()' $main
-expect 1 'Handed::unsaid()' $main
-expect 1 'start()' $main
+expect 1 'read_to(buf' $loop
+expect 1 'hand_over(&out' $loop
+expect 2 ' say(' $loop
+expect 2 ' answer(' $loop
+expect 1 'fn run(' $loop
+expect 0 ' run(' $stdio
+expect 2 ' run(' $main $loop
+expect 1 '    run(start(), &mut buf, &mut out);' $main
+expect 1 'Input::unread()' $loop
+expect 1 'Handed::unsaid()' $loop
+expect 1 'start()' $main $loop
 
 # The input buffer is written by the read, and by `to_front` alone.
-expect 1 'buf[i] =' $main
-expect 0 'buf[have' $main
-expect 2 'to_front(buf' $main
+expect 1 'buf[i] =' $loop
+expect 0 'buf[have' $loop
+expect 2 'to_front(buf' $loop
+expect 0 'buf[' $main
 
 echo "$passed passed, $failed failed"
 [ "$failed" -eq 0 ]

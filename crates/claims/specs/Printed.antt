@@ -18,7 +18,7 @@ use Rattle.rules.specs.Refusals.{refusalNumber}
 use Rattle.rules.specs.Reports.{reportOf}
 use Rattle.rules.specs.History.{History, historyReport}
 use Rattle.rules.specs.Sheets.{readSheet, handedBack}
-use Rattle.rules.specs.Transcripts.{Line, ended, unended, linesIn, reportLine, refusedLine, inputEnd}
+use Rattle.rules.specs.Transcripts.{Line, ended, unended, linesIn, reportLine, refusedLine, firstSample, inputEnd}
 use Rattle.rules.specs.declared.Settings.{Settings}
 use Rattle.rules.specs.declared.Refusal.{Refusal}
 use Rattle.rules.specs.declared.Region.the-variants.{Continuous}
@@ -127,8 +127,8 @@ pub record Printed (e : Equipment) (st : Settings) (lines : List Line) (text : L
   -- an accepted sample is answered with the report that it and the accepted samples before it alone give
   pub reports : (k : ℕ) (x : Slice) → AcceptedAt lines k x
       → getD answers k [] ≡ reportLine (reportOf (historyReport e st (x ∷ samplesOn (take k lines))))
-  -- any other line with its first cause and its number, the first line after a sheet being 14
-  pub refuses : (k : ℕ) (why : Refusal) → CauseAt lines k why → getD answers k [] ≡ refusedLine why (14 + k)
+  -- any other line with its first cause and its number in the input
+  pub refuses : (k : ℕ) (why : Refusal) → CauseAt lines k why → getD answers k [] ≡ refusedLine (refusalNumber why) (firstSample st + k)
   -- not tripped by the last report before it, a sample's report says `tripped` exactly when permission is off or some limit has been broken for its
   -- whole clearing time, ending there
   pub trips : (k : ℕ) (x : Slice) → AcceptedAt lines k x → ¬ (lastShown (take k answers) ≡ trippedWord)
@@ -148,7 +148,7 @@ readPart input = take inputEnd input
 pub record PrintsByHistory (e : Equipment) (print : List ℕ → List ℕ) : Type 0 where
   -- spec 10.6: where the sheet is refused, its refusal line and nothing else
   pub sheet-refused : (input : List ℕ) (why : Refusal) (line : ℕ) → readSheet (readPart input) .check ≡ SettingsCheck.Refused why line
-      → print input ≡ refusedLine why line
+      → print input ≡ refusedLine (refusalNumber why) line
   -- where it is accepted, what should be printed for the lines after it
   pub sheet-accepted : (input : List ℕ) → readSheet (readPart input) .check ≡ SettingsCheck.Accepted
       → Printed e (readSheet (readPart input) .settings) (linesIn (handedBack (readPart input))) (print input)

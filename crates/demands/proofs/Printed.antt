@@ -10,9 +10,9 @@ use lib.IntN.{ℤ, natAbs}
 use lib.ListN.{drop}
 use Rattle.rules.specs.Forms.{sampleForm, numbersOf}
 use Rattle.rules.specs.Samples.{Slice, Equipment}
-use Rattle.rules.specs.Records.{fresh}
+use Rattle.rules.specs.Refusals.{refusalNumber}
 use Rattle.rules.specs.Sheets.{readSheet, partOf, handedBack}
-use Rattle.rules.specs.Transcripts.{Line, ended, unended, linesIn, refusedLine, answersFrom, onSheet, transcriptOf, transcript}
+use Rattle.rules.specs.Transcripts.{Line, ended, unended, linesIn, refusedLine, answersTo, onSheetBy, transcriptOfBy, transcriptOf, transcriptBy, transcript}
 use Rattle.rules.specs.declared.Refusal.{Refusal}
 use Rattle.rules.specs.declared.SettingsCheck.{SettingsCheck}
 use Rattle.formats.specs.Samples.{writable, writtenSample}
@@ -30,22 +30,22 @@ module _ (e : Equipment) (s : List ℕ) (a : readSheet s .check ≡ SettingsChec
   unfolding handedBack
   rest-is = ap (λ (c : SettingsCheck). partOf c (drop (readSheet s .start) s)) a
 
-  answers-are : transcriptOf e s ≡ answersFrom e (readSheet s .settings) fresh 14 (linesIn (handedBack s))
-  unfolding transcriptOf
+  answers-are : transcriptOf e s ≡ answersTo e (readSheet s .settings) (linesIn (handedBack s))
+  unfolding transcriptOfBy
   answers-are =
-      ap (λ (c : SettingsCheck). onSheet e (readSheet s) c s) a
-      ∙ ap (λ (t : List ℕ). answersFrom e (readSheet s .settings) fresh 14 (linesIn t)) (sym rest-is)
+      ap (λ (c : SettingsCheck). onSheetBy (answersTo e) (readSheet s) c s) a
+      ∙ ap (λ (t : List ℕ). answersTo e (readSheet s .settings) (linesIn t)) (sym rest-is)
 
   text-printed : Sound e → Printed e (readSheet s .settings) (linesIn (handedBack s)) (transcriptOf e s)
   text-printed sound = rw answers-are (lines-printed e (readSheet s .settings) (sheet-written-out s a .accepted) (linesIn (handedBack s)) sound)
 
 refusal-printed : (e : Equipment) (s : List ℕ) (why : Refusal) (line : ℕ) → readSheet s .check ≡ SettingsCheck.Refused why line
-    → transcriptOf e s ≡ refusedLine why line
-unfolding transcriptOf
-refusal-printed e s why line r = ap (λ (c : SettingsCheck). onSheet e (readSheet s) c s) r
+    → transcriptOf e s ≡ refusedLine (refusalNumber why) line
+unfolding transcriptOfBy
+refusal-printed e s why line r = ap (λ (c : SettingsCheck). onSheetBy (answersTo e) (readSheet s) c s) r
 
 pub prints-by-history : (e : Equipment) → Sound e → PrintsByHistory e (transcript e)
-unfolding transcript
+unfolding transcriptBy
 prints-by-history e sound =
     record {
       sheet-refused = λ input why line r. refusal-printed e (readPart input) why line r;

@@ -10,7 +10,7 @@ use Rattle.rules.specs.Forms.{sheetForms, sampleForm, numbersOf}
 use Rattle.rules.specs.Settings.{rows}
 use Rattle.rules.specs.Regions.{ourEquipment}
 use Rattle.rules.specs.Sheets.{readFrom, readSheet}
-use Rattle.rules.specs.Transcripts.{spaced, spacedNumbers, refusedLine, linesAfter, linesIn, lineStep, answersFrom, transcriptOf, transcript}
+use Rattle.rules.specs.Transcripts.{spaced, spacedNumbers, refusedLine, linesAfter, linesIn, lineStep, answersFrom, transcriptOfBy, transcriptOf, transcriptBy, transcript}
 use Rattle.rules.specs.declared.Refusal.the-variants.{Form}
 use Rattle.claims.specs.Printed.{PrintsByHistory}
 use Rattle.demands.specs.Shams.{goesOn, saysNothing}
@@ -20,7 +20,7 @@ twoEmpty = 10 ∷ 10 ∷ []
 
 -- `(refused 8 2)` and its line feed are 14 bytes more
 pub no-more : ¬ PrintsByHistory ourEquipment goesOn
-unfolding goesOn transcript transcriptOf answersFrom lineStep linesIn linesAfter afterLine refusedLine spacedNumbers spaced signedDecimal decimal digitsBefore readSheet readFrom rows sheetForms sampleForm hasFeed firstLine numbersOf
+unfolding goesOn transcriptBy transcriptOfBy answersFrom lineStep linesIn linesAfter afterLine refusedLine spacedNumbers spaced signedDecimal decimal digitsBefore readSheet readFrom rows sheetForms sampleForm hasFeed firstLine numbersOf
 no-more d =
     let e : _≡_ {A = ℕ} 28 14 = ap length (d .sheet-refused twoEmpty Form 1 refl) in
     omega arith

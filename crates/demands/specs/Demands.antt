@@ -130,8 +130,8 @@ OurSheetRefusals = SheetsRefusedRightly readSheet handedBack
 abbrev pub OurTranscript : Type 0
 OurTranscript = TranscriptLaw ourEquipment
 
--- Demand 1, the program's loop: `StandingLaw` in program/specs/Standing.antt. The contract of `board::run` (`Runs` in
--- board/specs/Loop.antt) has a session of `respond` that stands where the run ended. As many bytes came to it as were
+-- Demand 1, the program's loop: `StandingLaw` in program/specs/Standing.antt. The contract of `console::run` (`Runs` in
+-- console/specs/Loop.antt) has a session of `respond` that stands where the run ended. As many bytes came to it as were
 -- read, and it has said as many as were handed to the writing. Of every session that stands:
 --   - As many bytes came as it has taken and are left.
 --   - Where all is done, it has said the transcript of what came. So it is at the end of every run in which no read

@@ -24,6 +24,7 @@ use Rattle.program.specs.States.{Fit}
 use Rattle.program.specs.Saying.{Said, lineNumbers, said}
 use Rattle.program.specs.Responses.{lineRoom, handled}
 use Rattle.program.specs.declared.State.{State}
+use Rattle.program.proofs.Saying.{said-sample}
 use Rattle.program.proofs.Handling.{handled-fed}
 use Rattle.handling.specs.SampleLines.{lineWithout, lineWith, formlessFrom, lineFrom, lineAnswer}
 use Rattle.handling.specs.Carrying.{Stands, Carried, Stuck}
@@ -164,10 +165,9 @@ module _ (e : Equipment) (s d : List ℕ) (h : Handled) (d′ : List ℕ) (b : B
 
     module _ (r : Stepped) (step : r ≡ lineAnswer e b (h .state .settings) x) where
       said-is : said e q line ≡ record { state = sampled h (r .board) (n + 1) false (x .next); text = answerLine n (r .answer) }
-      unfolding said
       said-is =
           let t : h .state .taken + (at - h .at) + (length line + 1) ≡ h .state .taken + (x .next - h .at) = omega (arith, next-is, going .carried .stands .later) in
-          rw (answer-is, ← step, t)
+          said-sample e q line refl refl ∙ rw (answer-is, ← step, t)
 
       pub goes-on : (d″ : List ℕ) (w′ : ℕ) → Wrote d′ w d″ w′ (answerLine n (r .answer)) → Going e s d h d″ (here h (r .board) (n + 1) false (x .next) w′) true
       goes-on d″ w′ wrote =

@@ -21,7 +21,7 @@ use Rattle.program.specs.Saying.{Said, sheetLine, said}
 use Rattle.program.specs.Responses.{lineRoom, handled}
 use Rattle.program.specs.declared.State.{State}
 use Rattle.program.proofs.Fitting.{fit-said}
-use Rattle.program.proofs.Resuming.{said-taken}
+use Rattle.program.proofs.Saying.{said-taken, said-sheet}
 use Rattle.program.proofs.Handling.{handled-fed}
 use Rattle.handling.specs.Carrying.{checkText, Stands, SheetSaid}
 
@@ -91,8 +91,8 @@ module _ (q : State) (s : List ℕ) (state : State) (at end : ℕ) (going : Goin
     fed = sym ended ∙ lt-ltb end (length s) h
 
     said-is : (e : Equipment) → said e state (firstLine (drop at s)) ≡ record { state = next; text = checkText check }
-    unfolding said
-    said-is e = rw (busy, eq-eqb (state .stage) 0 sheet) (ap (sheetLine state) (sym (line-lent s at end place)) ∙ is)
+    said-is e =
+        said-sheet e state (firstLine (drop at s)) busy (eq-eqb (state .stage) 0 sheet) ∙ ap (sheetLine state) (sym (line-lent s at end place)) ∙ is
 
     -- no equipment has a part in a sheet's line, so any will do
     step-stands : Stands s q 0 next (end + 1)

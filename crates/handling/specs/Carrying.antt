@@ -7,6 +7,7 @@ use Prim.Native.Nat.{ℕ, _+_, _-_, _≤_}
 use lib.ListN.{length, drop}
 use Rattle.rules.specs.Samples.{Equipment}
 use Rattle.rules.specs.Text.{hasFeed}
+use Rattle.rules.specs.Refusals.{refusalNumber}
 use Rattle.rules.specs.Transcripts.{linesIn, refusedLine}
 use Rattle.rules.specs.declared.SettingsCheck.{SettingsCheck}
 use Rattle.buffers.specs.Written.{Wrote}
@@ -19,7 +20,7 @@ use Rattle.handling.specs.declared.sheet_lines.SheetLines.{SheetLines}
 -- what a refused sheet line writes; an accepted one writes nothing
 abbrev pub checkText : SettingsCheck → List ℕ
 checkText SettingsCheck.Accepted = []
-checkText (SettingsCheck.Refused cause line) = refusedLine cause line
+checkText (SettingsCheck.Refused cause line) = refusedLine (refusalNumber cause) line
 
 -- r stands at a place of a block s, and q at one before it
 pub record Stands (s : List ℕ) (q : State) (at₀ : ℕ) (r : State) (at : ℕ) : Type 0 where

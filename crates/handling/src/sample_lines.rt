@@ -26,6 +26,7 @@ use rules::Refusal;
 use rules::Settings;
 use rules::SettingsCheck;
 use rules::Stepped;
+use rules::refusal_number;
 use samples::sample_at;
 use service::step_accepted;
 use text::line_end;
@@ -47,7 +48,7 @@ fn put_answer(out: &mut [u8], at: usize, answer: Answer, line: u64) -> usize
 {
     match answer {
         Answer::Reported(report) => put_report(out, at, report),
-        Answer::Refused(cause) => put_refused(out, at, cause, line),
+        Answer::Refused(cause) => put_refused(out, at, refusal_number(cause), line),
     }
 }
 

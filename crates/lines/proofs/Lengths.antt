@@ -6,11 +6,8 @@ use native.Mathlib.Nat.{suc-mul}
 use native.Mathlib.Omega.{arith}
 use lib.IntN.{ℤ, pos, natAbs}
 use lib.ListN.{length, length-append}
-use Rattle.basics.proofs.Refusals.{number-bounds}
-use Rattle.rules.specs.Refusals.{refusalNumber}
 use Rattle.rules.specs.Transcripts.{reportNumbers, spacedNumbers, reportLine, refusedLine}
 use Rattle.rules.specs.declared.Report.{Report}
-use Rattle.rules.specs.declared.Refusal.{Refusal}
 use Rattle.pieces.proofs.Lengths.{word-length, bits-length, spaced-length}
 use Rattle.lines.specs.Fronts.{reportHead, headRoom}
 use Rattle.lines.proofs.Whole.{report-whole}
@@ -37,8 +34,8 @@ report-length r short =
     let numbers = numbers-length 4 (reportNumbers r) short in
     rw (report-whole r) (simp length-append (omega (arith, head-length r)))
 
-pub refused-length : (cause : Refusal) (line : ℕ) → line < 10 ^ 20 → length (refusedLine cause line) ≤ 64
+pub refused-length : (number line : ℕ) → number < 100 → line < 10 ^ 20 → length (refusedLine number line) ≤ 64
 unfolding refusedLine
-refused-length cause line h =
-    let small : refusalNumber cause < 10 ^ 20 = omega (arith, number-bounds cause .1) in
-    simp length-append (omega (arith, numbers-length 19 (pos (refusalNumber cause) ∷ pos line ∷ []) (small, (h, tt))))
+refused-length number line n h =
+    let small : number < 10 ^ 20 = omega arith in
+    simp length-append (omega (arith, numbers-length 19 (pos number ∷ pos line ∷ []) (small, (h, tt))))

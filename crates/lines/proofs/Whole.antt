@@ -5,14 +5,12 @@ use mathlib.Core.Bool.{true}
 use mathlib.Core.List.{List, [], _∷_, _++_, append-assoc, append-nil}
 use Prim.Native.Nat.{ℕ}
 use borrow.Author.Tests.{eqb-true}
-use Rattle.rules.specs.Refusals.{refusalNumber}
 use lib.IntN.{ℤ, pos}
 use lib.ListN.{drop}
 use Rattle.rules.specs.Text.{bytes, decimal, signedDecimal, digitsBefore}
 use Rattle.basics.proofs.Bools.{both}
 use Rattle.rules.specs.Transcripts.{bitDigits, spaced, spacedNumbers, reportNumbers, reportLine, refusedLine}
 use Rattle.rules.specs.declared.Report.{Report}
-use Rattle.rules.specs.declared.Refusal.{Refusal}
 use Rattle.buffers.specs.Written.{Wrote}
 use Rattle.buffers.proofs.Writing.{and-then}
 use Rattle.pieces.specs.Pieces.{statusWord}
@@ -66,7 +64,7 @@ pub calm-event : (side held : ℕ) → isCalm side held ≡ true → eventNumber
 unfolding eventNumbers spaced signedDecimal decimal digitsBefore
 calm-event side held t = let calm = both _ _ t in rw (eqb-true side 0 (calm .0), eqb-true held 0 (calm .1))
 
-pub refused-pieces : (cause : Refusal) (line : ℕ)
-    → refusedLine cause line ≡ bytes "(refused" ++ (spaced (pos (refusalNumber cause)) ++ (spaced (pos line) ++ bytes ")\n"))
+pub refused-pieces : (number line : ℕ)
+    → refusedLine number line ≡ bytes "(refused" ++ (spaced (pos number) ++ (spaced (pos line) ++ bytes ")\n"))
 unfolding refusedLine spacedNumbers
-refused-pieces cause line = simp (append-assoc, append-nil)
+refused-pieces number line = simp (append-assoc, append-nil)

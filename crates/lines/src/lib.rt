@@ -14,9 +14,7 @@ use pieces::numbers::put_number;
 use pieces::numbers::put_signed_number;
 use pieces::words::put_word;
 use rules::RECOVERY_TOP;
-use rules::Refusal;
 use rules::Report;
-use rules::refusal_number;
 
 // "(report ", the status word, a space and the nine bits.
 fn put_head(out: &mut [u8], at: usize, report: Report) -> usize
@@ -98,13 +96,12 @@ pub fn put_report(out: &mut [u8], at: usize, report: Report) -> usize
 }
 
 // A refusal: the cause's number and the input line.
-pub fn put_refused(out: &mut [u8], at: usize, cause: Refusal, line: u64) -> usize
+pub fn put_refused(out: &mut [u8], at: usize, number: u8, line: u64) -> usize
     requires { ⌜ at + lineRoom ≤ length (now out) ⌝ }
-    ensures { λ r. ⌜ Wrote (now (out .entry)) at (now (out .exit)) r (refusedLine cause line) ⌝ }
+    ensures { λ r. ⌜ Wrote (now (out .entry)) at (now (out .exit)) r (refusedLine number line) ⌝ }
 {
-    let n = refusal_number(cause);
     let a = put(out, at, b"(refused");
-    let b = put_long_number(out, a, n as u64);
+    let b = put_long_number(out, a, number as u64);
     let c = put_long_number(out, b, line);
     put(out, c, b")\n")
 }

@@ -15,7 +15,7 @@ use Rattle.program.specs.Saying.{said}
 use Rattle.program.specs.declared.State.{State}
 use Rattle.formats.proofs.Feeds.{plain-feed, plain-line, plain-after}
 use Rattle.program.proofs.Framing.{lines-fed, lines-unfed}
-use Rattle.program.proofs.Resuming.{done-said, dropped-said}
+use Rattle.program.proofs.Saying.{done-said, dropped-said}
 
 unfoldable pub doneAfter : Equipment → State → List Line → Bool
 doneAfter e q [] = isDone q

@@ -1,6 +1,6 @@
 -- Sensible states: lines and bytes are counted within the input's 10^12 bytes.
 -- Assumes nothing.
-use mathlib.Core.Path.{_≡_, refl}
+use mathlib.Core.Path.{_≡_, refl, sym, subst}
 use mathlib.Core.Bool.{Bool, true, false, cond, not, _&&_, _||_, false≢true}
 use mathlib.Core.List.{List}
 use Prim.Native.Nat.{ℕ, _+_, _-_, _≤_}
@@ -17,8 +17,9 @@ use Rattle.basics.proofs.Bools.{both}
 use Rattle.formats.specs.Marks.{formAt}
 use Rattle.sheet.specs.Storing.{onLine}
 use Rattle.program.specs.States.{isDone, readsSheet, stopped, sensible, readState, Fit}
-use Rattle.program.specs.Saying.{lineNumbers, onCheck, sheetLine, sampleLine, said}
+use Rattle.program.specs.Saying.{Said, lineNumbers, onCheck, said}
 use Rattle.program.specs.declared.State.{State}
+use Rattle.program.proofs.Saying.{said-sheet, said-sample}
 
 pub fit-less : {q : State} {n : ℕ} (m : ℕ) → Fit q n → m ≤ n → Fit q m
 fit-less m f h = record { from-one = f .from-one; low = f .low; high = omega (arith, f .high); sheet = f .sheet }
@@ -46,14 +47,15 @@ fit-check {q} m st SettingsCheck.Accepted f p a b =
         let low = f .sheet p in omega arith
 
 pub fit-said : (e : Equipment) {q : State} {n : ℕ} (l : List ℕ) → isDone q ≡ false → Fit q n → length l + 1 ≤ n → Fit (said e q l .state) (n - (length l + 1))
-unfolding said
-fit-said e {q} {n} l p f h = rw p (by (readsSheet q) refl)
+fit-said e {q} {n} l p f h = by (readsSheet q) refl
   where
-    by : (b : Bool) → readsSheet q ≡ b → Fit (cond b (sheetLine q l) (sampleLine e q l) .state) (n - (length l + 1))
+    by : (b : Bool) → readsSheet q ≡ b → Fit (said e q l .state) (n - (length l + 1))
     by true r =
         let read = onLine (q .line - 1) (q .settings) (lineNumbers (q .overlong) (formAt (q .line - 1)) l) in
-        fit-check (length l + 1) (read .settings) (read .check) f r (omega arith) h
+        subst (λ (k : Said). Fit (k .state) (n - (length l + 1))) (sym (said-sheet e q l p r))
+        (fit-check (length l + 1) (read .settings) (read .check) f r (omega arith) h)
     by false r =
+        subst (λ (k : Said). Fit (k .state) (n - (length l + 1))) (sym (said-sample e q l p r))
         record { from-one = omega arith; low = omega (arith, f .low); high = omega (arith, f .high); sheet = λ k. absurd (false≢true k) }
 
 -- ---- the test

@@ -18,7 +18,8 @@ use Rattle.program.specs.States.{Fit, isDone, readsSheet, stopped}
 use Rattle.program.specs.Saying.{Said, said, resume}
 use Rattle.program.specs.Responses.{longest, stops, andSaid, closed, dropped, atTail, handled}
 use Rattle.program.proofs.Framing.{lines-fed, lines-unfed, line-plain, take-line, feed-front, line-front, after-front}
-use Rattle.program.proofs.Resuming.{resume-fed, resume-unfed, resume-line, done-resume, said-taken, dropped-resume}
+use Rattle.program.proofs.Saying.{said-taken, said-on}
+use Rattle.program.proofs.Resuming.{resume-fed, resume-unfed, resume-line, done-resume, dropped-resume}
 use Rattle.program.proofs.Ending.{doneAfter, done-fed, done-done, done-dropped}
 use Rattle.program.proofs.Fitting.{fit-less, fit-stopped, fit-said}
 
@@ -159,10 +160,6 @@ module _ (e : Equipment) (h : Said) (s more : List ℕ) (fed : hasFeed s ≡ tru
       ∙ ap (λ (l : List ℕ). h .text ++ l) (resume-line e (h .state) line (x ++ t) (line-plain s))
       ∙ sym (append-assoc (h .text) (said e (h .state) line .text) (resume e (next .state) (x ++ t)))
 
-  one-on : readsSheet (h .state) ≡ false → readsSheet (next .state) ≡ false
-  unfolding said
-  one-on p = rw (going, p) refl
-
   keeps-line : (k : Said) → Keeps e next (afterLine s) more k → Keeps e h s more k
   keeps-line k r =
       record {
@@ -171,7 +168,7 @@ module _ (e : Equipment) (h : Said) (s more : List ℕ) (fed : hasFeed s ≡ tru
         says = one-says ∙ r .says ∙ ap (λ (t : List ℕ). k .text ++ resume e (k .state) (t ++ more)) (left-is k (r .low));
         finish = λ p. rw (← left-is k (r .low)) (r .finish (one-finish p));
         took = λ t n. one-took k t (r .low) ∙ r .took t n;
-        on = λ p. r .on (one-on p);
+        on = λ p. r .on (said-on e (h .state) line going p);
       }
 
 -- ---- the whole block

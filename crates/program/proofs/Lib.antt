@@ -1,4 +1,5 @@
 pub mod Framing
+pub mod Saying
 pub mod Resuming
 pub mod Ending
 pub mod Fitting

@@ -20,7 +20,8 @@ use Rattle.program.specs.Responses.{lineRoom, longest, stops, andSaid, d
 use Rattle.program.specs.declared.State.{State}
 use Rattle.program.proofs.Cuts.{take-both, rest-cut}
 use Rattle.program.proofs.Fitting.{fit-read}
-use Rattle.program.proofs.Resuming.{said-taken, resume-none}
+use Rattle.program.proofs.Saying.{said-taken}
+use Rattle.program.proofs.Resuming.{resume-none}
 use Rattle.program.proofs.Transcripts.{sampling, resume-samples}
 use Rattle.program.proofs.Ending.{doneAfter}
 use Rattle.program.proofs.Handling.{Keeps, keeps, Settled, settled, fits, handled-fed, handled-unfed, handled-stops}

@@ -12,7 +12,7 @@ use lib.Seq.{take-all, take-at, drop-append-seam}
 use Rattle.rules.specs.Samples.{Equipment}
 use Rattle.rules.specs.Text.{hasFeed}
 use Rattle.rules.specs.Sheets.{readSheet}
-use Rattle.rules.specs.Transcripts.{linesIn, inputEnd, transcriptOf, transcript}
+use Rattle.rules.specs.Transcripts.{linesIn, inputEnd, transcriptOf, transcriptBy, transcript}
 use Rattle.rules.specs.declared.Refusal.{Refusal}
 use Rattle.rules.specs.declared.SettingsCheck.{SettingsCheck}
 use Rattle.program.specs.States.{Fit, start, isDone, stopped, sensible, readState}
@@ -42,7 +42,7 @@ module _ (e : Equipment) where
     pub says : (more : List ℕ) → transcript e (input ++ more) ≡ k .text ++ still k more
 
   good-opened : Good opened []
-  unfolding start transcript
+  unfolding start transcriptBy
   good-opened =
       record {
         fit = record { from-one = omega arith; low = omega arith; high = omega arith; sheet = λ p. omega arith };
@@ -191,7 +191,7 @@ module _ (e : Equipment) where
   -- the sheet is read, and no begun line is dropped
   took-text : (k : Session) (input : List ℕ) → Took k input → 1 ≤ k .state .stage → k .state .overlong ≡ false
       → k .text ≡ transcript e (take (k .state .taken) input)
-  unfolding transcript
+  unfolding transcriptBy
   took-text k input g p whole =
       let cutting : take inputEnd (take (k .state .taken) input) ≡ g .bytes ++ []
       = ap (take inputEnd) (ap (take (k .state .taken)) (g .splits) ∙ take-at (g .bytes) (k .left) (k .state .taken) (g .counts))

@@ -14,8 +14,9 @@ use Rattle.rules.specs.Samples.{Equipment}
 use Rattle.rules.specs.Text.{firstLine, hasFeed, afterLine}
 use Rattle.rules.specs.Forms.{numbersOf, sampleForm}
 use Rattle.rules.specs.Records.{fresh}
+use Rattle.rules.specs.Refusals.{refusalNumber}
 use Rattle.rules.specs.Sheets.{SheetReading, settingsOf, readSheet}
-use Rattle.rules.specs.Transcripts.{linesIn, lastLine, lineStep, onSampleNumbers, answerLine, answersFrom, refusedLine, onSheet, transcriptOf}
+use Rattle.rules.specs.Transcripts.{linesIn, lastLine, lineStep, onSampleNumbers, answerLine, answersFrom, refusedLine, firstSample, answersTo, onSheetBy, transcriptOfBy, transcriptOf}
 use Rattle.rules.specs.declared.Settings.{Settings}
 use Rattle.rules.specs.declared.Board.{Board}
 use Rattle.rules.specs.declared.Refusal.{Refusal}
@@ -27,9 +28,10 @@ use Rattle.sheet.specs.Storing.{lineRead}
 use Rattle.sheet.specs.declared.LineRead.{LineRead}
 use Rattle.sheet.proofs.Reading.{from, from-unended, from-end, on-accepted, on-refused}
 use Rattle.program.specs.States.{start, stopped}
-use Rattle.program.specs.Saying.{Said, onRead, onCheck, stageAfter, said, endText, resume}
+use Rattle.program.specs.Saying.{Said, onRead, onCheck, stageAfter, said, begunLine, closingText, endText, resume}
 use Rattle.program.specs.declared.State.{State}
 use Rattle.program.proofs.Framing.{lines-fed, lines-unfed}
+use Rattle.program.proofs.Saying.{said-sheet, said-sample, end-at-sheet, end-at-samples}
 use Rattle.program.proofs.Ending.{doneAfter, done-fed, done-done}
 use Rattle.program.proofs.Resuming.{resume-fed, resume-unfed, done-resume}
 use Rattle.program.proofs.Handling.{after-shorter}
@@ -43,10 +45,9 @@ module _ (e : Equipment) (st : Settings) (b : Board) (n t : ℕ) (s : List ℕ) 
   abbrev pub answered : Stepped
   answered = onSampleNumbers e st b (numbersOf sampleForm (firstLine s))
 
-  pub said-sample : said e (sampling st b n t) (firstLine s)
+  sampled-said : said e (sampling st b n t) (firstLine s)
       ≡ record { state = sampling st (answered .board) (n + 1) (t + (length (firstLine s) + 1)); text = answerLine n (answered .answer) }
-  unfolding said
-  said-sample = refl
+  sampled-said = said-sample e (sampling st b n t) (firstLine s) refl refl
 
   sample-fed : hasFeed s ≡ true
       → resume e (sampling st (answered .board) (n + 1) (t + (length (firstLine s) + 1))) (afterLine s)
@@ -54,13 +55,13 @@ module _ (e : Equipment) (st : Settings) (b : Board) (n t : ℕ) (s : List ℕ) 
       → resume e (sampling st b n t) s ≡ answersFrom e st b n (linesIn s)
   unfolding answersFrom lineStep
   sample-fed f rest =
-      resume-fed e (sampling st b n t) s f ∙ rw (said-sample, lines-fed s f, rest, add-one n)
+      resume-fed e (sampling st b n t) s f ∙ rw (sampled-said, lines-fed s f, rest, add-one n)
 
   pub end-answers : endText (sampling st b n t) s ≡ answersFrom e st b n (lastLine s)
-  unfolding endText answersFrom lineStep
-  end-answers = by s
+  unfolding answersFrom lineStep
+  end-answers = end-at-samples (sampling st b n t) s refl refl ∙ by s
     where
-      by : (l : List ℕ) → endText (sampling st b n t) l ≡ answersFrom e st b n (lastLine l)
+      by : (l : List ℕ) → closingText (sampling st b n t) (begunLine (sampling st b n t) l) ≡ answersFrom e st b n (lastLine l)
       by [] = refl
       by (c ∷ l) = sym (append-nil _)
 
@@ -94,7 +95,7 @@ abbrev pub reading : Settings → ℕ → ℕ → State
 reading st i at = record { stage = 0; line = i + 1; overlong = false; taken = at; settings = st; board = fresh }
 
 abbrev to-the-end : Equipment → List ℕ → SheetReading → List ℕ
-to-the-end e s r = onSheet e r (r .check) s
+to-the-end e s r = onSheetBy (answersTo e) r (r .check) s
 
 module _ (e : Equipment) (s : List ℕ) (i at : ℕ) (lines : List (List Pair)) (h : i < sheetLines) (long : length lines ≡ i) where
   abbrev line : List ℕ
@@ -107,16 +108,14 @@ module _ (e : Equipment) (s : List ℕ) (i at : ℕ) (lines : List (List Pair)) 
   past = at + length line + 1
 
   said-read : said e (reading (settingsOf lines) i at) line ≡ onRead (reading (settingsOf lines) i at) (length line + 1) read
-  unfolding said lineRead
+  unfolding lineRead
   said-read =
-      let same : i + 1 - 1 ≡ i = omega arith in rw same
+      let same : i + 1 - 1 ≡ i = omega arith in said-sheet e (reading (settingsOf lines) i at) line refl refl ∙ rw same
 
   unended-text : hasFeed (drop at s) ≡ false → resume e (reading (settingsOf lines) i at) (drop at s) ≡ to-the-end e s (from s i at lines)
-  unfolding endText
-  unended-text f = resume-unfed e (reading (settingsOf lines) i at) (drop at s) f ∙ by ∙ sym (ap (to-the-end e s) (from-unended s i at lines h f))
-    where
-      by : endText (reading (settingsOf lines) i at) (drop at s) ≡ refusedLine Form (i + 1)
-      by = refl
+  unended-text f =
+      let q = reading (settingsOf lines) i at in
+      resume-unfed e q (drop at s) f ∙ end-at-sheet q (drop at s) refl refl ∙ sym (ap (to-the-end e s) (from-unended s i at lines h f))
 
   module _ (f : hasFeed (drop at s) ≡ true) where
     after-is : afterLine (drop at s) ≡ drop past s
@@ -134,8 +133,8 @@ module _ (e : Equipment) (s : List ℕ) (i at : ℕ) (lines : List (List Pair)) 
     refused-text cause n c =
         let r = on-refused s i at lines h f long read refl cause n c in
         let q = reading (settingsOf lines) i at in
-        let closes : refusedLine cause n ++ resume e (stopped q (length line + 1)) (drop past s) ≡ refusedLine cause (i + 1)
-        = rw (done-resume e (stopped q (length line + 1)) (drop past s) refl) (append-nil _ ∙ ap (refusedLine cause) (r .1)) in
+        let closes : refusedLine (refusalNumber cause) n ++ resume e (stopped q (length line + 1)) (drop past s) ≡ refusedLine (refusalNumber cause) (i + 1)
+        = rw (done-resume e (stopped q (length line + 1)) (drop past s) refl) (append-nil _ ∙ ap (refusedLine (refusalNumber cause)) (r .1)) in
         then (onCheck q (length line + 1) (read .settings) (SettingsCheck.Refused cause n)) (ap (onCheck q (length line + 1) (read .settings)) c)
         ∙ closes
         ∙ sym (ap (to-the-end e s) (r .0))
@@ -200,7 +199,7 @@ sheet-within e (suc k) s i at lines is long =
         (lineRead i (firstLine (drop at s)) (settingsOf lines) .check) refl
 
 pub resume-start : (e : Equipment) (s : List ℕ) → resume e start s ≡ transcriptOf e s
-unfolding start transcriptOf readSheet
+unfolding start transcriptOfBy readSheet
 resume-start e s = sheet-within e 12 s 0 0 [] (omega arith) refl
 
 -- ---- a refused sheet whose line is known

@@ -8,12 +8,14 @@ use lib.Dec.{eqb}
 use lib.IntN.{ℤ}
 use lib.ListN.{length}
 use Rattle.rules.specs.Settings.{sheetLines}
+use Rattle.rules.specs.Refusals.{refusalNumber}
 use Rattle.rules.specs.Samples.{Equipment}
 use Rattle.rules.specs.Forms.{sampleForm, numbersOf}
 use Rattle.rules.specs.Transcripts.{Line, ended, unended, linesIn, refusedLine, answerLine, onSampleNumbers}
 use Rattle.rules.specs.declared.Settings.{Settings}
 use Rattle.rules.specs.declared.Refusal.the-variants.{Form, Sample}
 use Rattle.rules.specs.declared.SettingsCheck.{SettingsCheck}
+use Rattle.rules.specs.declared.Answer.{Answer}
 use Rattle.rules.specs.declared.Stepped.{Stepped}
 use Rattle.formats.specs.Marks.{formAt}
 use Rattle.sheet.specs.Storing.{onLine}
@@ -38,7 +40,7 @@ stageAfter line = cond (eqb line sheetLines) 1 0
 
 -- spec 10.6: a refused sheet ends all; n is how many bytes the line took
 abbrev pub onCheck : State → ℕ → Settings → SettingsCheck → Said
-onCheck q n st (SettingsCheck.Refused cause line) = record { state = stopped q n; text = refusedLine cause line }
+onCheck q n st (SettingsCheck.Refused cause line) = record { state = stopped q n; text = refusedLine (refusalNumber cause) line }
 onCheck q n st SettingsCheck.Accepted =
     record {
       state = record { stage = stageAfter (q .line); line = q .line + 1; overlong = false; taken = q .taken + n; settings = st; board = q .board };
@@ -53,11 +55,15 @@ sheetLine q l = onRead q (length l + 1) (onLine (q .line - 1) (q .settings) (lin
 
 -- ---- the sample lines
 
+-- what is written to a sample line with this answer
+abbrev pub lineText : State → Answer → List ℕ
+lineText q answer = answerLine (q .line) answer
+
 abbrev pub onStepped : State → ℕ → Stepped → Said
 onStepped q n r =
     record {
       state = record { stage = 1; line = q .line + 1; overlong = false; taken = q .taken + n; settings = q .settings; board = r .board };
-      text = answerLine (q .line) (r .answer);
+      text = lineText q (r .answer);
     }
 
 abbrev pub sampleLine : Equipment → State → List ℕ → Said
@@ -73,12 +79,17 @@ abbrev pub isSome : List ℕ → Bool
 isSome [] = false
 isSome (b ∷ s) = true
 
--- what is written where the input ends with the bytes l of a line that has no line feed: a sheet's line is unended or missing; a
--- sample line is unended, where there is one
+-- some bytes of the line are there, with l those that are not taken yet
+abbrev pub begunLine : State → List ℕ → Bool
+begunLine q l = q .overlong || isSome l
+
+-- what is written among the samples where the input ends: a sample line is unended, where there is one
+abbrev pub closingText : State → Bool → List ℕ
+closingText q begun = cond begun (refusedLine (refusalNumber Sample) (q .line)) []
+
+-- what is written where the input ends with the bytes l of a line that has no line feed: a sheet's line is unended or missing
 unfoldable pub endText : State → List ℕ → List ℕ
-endText q l =
-    cond (isDone q) []
-    (cond (readsSheet q) (refusedLine Form (q .line)) (cond (q .overlong || isSome l) (refusedLine Sample (q .line)) []))
+endText q l = cond (isDone q) [] (cond (readsSheet q) (refusedLine (refusalNumber Form) (q .line)) (closingText q (begunLine q l)))
 
 -- what is written from a state on, for the lines of all the input that is left
 unfoldable pub following : Equipment → State → List Line → List ℕ

@@ -2,38 +2,24 @@
 -- Assumes nothing.
 use mathlib.Core.Path.{_≡_, refl, sym, ap, _∙_}
 use mathlib.Core.Bool.{Bool, cond}
-use mathlib.Core.List.{List, [], _∷_, map}
-use mathlib.Core.Option.{Option, none, some}
+use mathlib.Core.List.{List, [], _∷_}
 use Prim.Native.Nat.{ℕ}
-use lib.IntN.{ℤ, natAbs}
 use Rattle.rules.specs.Samples.{Equipment}
-use Rattle.rules.specs.Forms.{sampleForm}
-use Rattle.rules.specs.Transcripts.{Line, ended, unended, onSampleNumbers}
-use Rattle.rules.specs.declared.Settings.{Settings}
-use Rattle.rules.specs.declared.Board.{Board}
+use Rattle.rules.specs.Transcripts.{Line, ended, unended}
 use Rattle.causes.specs.Alike.{Alike}
-use Rattle.laws.proofs.Alike.{step-alike}
-use Rattle.program.specs.Saying.{Said, lineNumbers, said}
+use Rattle.program.specs.Saying.{Said, said}
 use Rattle.program.specs.Responses.{handled, stops, andSaid}
-use Rattle.program.specs.declared.State.{State}
+use Rattle.program.proofs.Saying.{said-alike}
 use Rattle.handling.specs.Carrying.{Carried}
 use Rattle.handling.specs.declared.state.Handled.{Handled}
 
 module _ (e f : Equipment) (a : Alike e f) where
-  numbers-alike : (st : Settings) (b : Board) (o : Option (List ℤ)) → onSampleNumbers e st b o ≡ onSampleNumbers f st b o
-  numbers-alike st b none = refl
-  numbers-alike st b (some ns) = step-alike e f a b st (map natAbs ns)
-
-  said-alike : (q : State) (l : List ℕ) → said e q l ≡ said f q l
-  unfolding said
-  said-alike q l = rw (numbers-alike (q .settings) (q .board) (lineNumbers (q .overlong) sampleForm l))
-
   handled-alike : (ends : Bool) (size : ℕ) (h : Said) (ls : List Line) → handled e ends size h ls ≡ handled f ends size h ls
   unfolding handled
   handled-alike ends size h [] = refl
   handled-alike ends size h (ended l ∷ ls) =
       ap (λ (k : Said). cond (stops size h) h k)
-      (ap (λ (k : Said). handled e ends size (andSaid h k) ls) (said-alike (h .state) l) ∙ handled-alike ends size (andSaid h (said f (h .state) l)) ls)
+      (ap (λ (k : Said). handled e ends size (andSaid h k) ls) (said-alike e f a (h .state) l) ∙ handled-alike ends size (andSaid h (said f (h .state) l)) ls)
   handled-alike ends size h (unended l ∷ ls) = refl
 
   pub carried-alike : (s d : List ℕ) (h : Handled) (d′ : List ℕ) (r : Handled) → Carried e s d h d′ r → Carried f s d h d′ r

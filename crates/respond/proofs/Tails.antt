@@ -9,6 +9,7 @@ use borrow.Author.Tests.{lt-ltb, le-ltb, le-leb, lt-leb, ne-eqb}
 use lib.Dec.{ltb}
 use lib.ListN.{length, drop, length-drop}
 use Rattle.rules.specs.Samples.{Equipment}
+use Rattle.rules.specs.Refusals.{refusalNumber}
 use Rattle.rules.specs.Transcripts.{linesIn, refusedLine}
 use Rattle.rules.specs.declared.Refusal.the-variants.{Form, Sample}
 use Rattle.buffers.specs.Written.{Wrote}
@@ -16,6 +17,7 @@ use Rattle.program.specs.States.{isDone, stopped, dropping}
 use Rattle.program.specs.Saying.{isSome, endText}
 use Rattle.program.specs.Responses.{longest, lineRoom, atTail, handled}
 use Rattle.program.specs.declared.State.{State}
+use Rattle.program.proofs.Saying.{done-end, end-at-sheet, end-at-samples}
 use Rattle.program.proofs.Handling.{handled-unfed, handled-stops}
 use Rattle.handling.specs.Carrying.{Stuck}
 use Rattle.respond.specs.Answering.{Closed}
@@ -25,13 +27,11 @@ use Rattle.handling.proofs.Buffers.{wrote-none}
 -- ---- the text at the input's end
 
 module _ (q : State) (l : List ℕ) where
-  pub end-sheet : q .stage ≡ 0 → refusedLine Form (q .line) ≡ endText q l
-  unfolding endText
-  end-sheet p = rw p
+  pub end-sheet : q .stage ≡ 0 → refusedLine (refusalNumber Form) (q .line) ≡ endText q l
+  end-sheet p = sym (end-at-sheet q l (rw p) (rw p))
 
   pub end-done : 2 ≤ q .stage → [] ≡ endText q l
-  unfolding endText
-  end-done p = rw (le-leb 2 (q .stage) p)
+  end-done p = sym (done-end q l (le-leb 2 (q .stage) p))
 
   some-is : isSome l ≡ ltb 0 (length l)
   some-is = by l
@@ -41,11 +41,10 @@ module _ (q : State) (l : List ℕ) where
       by (b ∷ k) = sym (lt-ltb 0 (length (b ∷ k)) (omega arith))
 
   module _ (other : q .stage ≡ 0 → ⊥) (low : q .stage < 2) where
-    end-by : (b : Bool) → (q .overlong || ltb 0 (length l)) ≡ b → cond b (refusedLine Sample (q .line)) [] ≡ endText q l
-    unfolding endText
-    end-by b e = rw (lt-leb 2 (q .stage) low, ne-eqb (q .stage) 0 other, some-is, e)
+    end-by : (b : Bool) → (q .overlong || ltb 0 (length l)) ≡ b → cond b (refusedLine (refusalNumber Sample) (q .line)) [] ≡ endText q l
+    end-by b e = sym (end-at-samples q l (lt-leb 2 (q .stage) low) (ne-eqb (q .stage) 0 other) ∙ rw (some-is, e))
 
-    pub end-sample : (q .overlong || ltb 0 (length l)) ≡ true → refusedLine Sample (q .line) ≡ endText q l
+    pub end-sample : (q .overlong || ltb 0 (length l)) ≡ true → refusedLine (refusalNumber Sample) (q .line) ≡ endText q l
     end-sample e = end-by true e
 
     pub end-none : (q .overlong || ltb 0 (length l)) ≡ false → [] ≡ endText q l

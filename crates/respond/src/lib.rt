@@ -25,6 +25,7 @@ use lines::put_refused;
 use program::State;
 use rules::LINE_ROOM;
 use rules::SettingsCheck;
+use rules::refusal_number;
 use sensing::table;
 use tail::tail;
 
@@ -53,7 +54,7 @@ fn on_sheet(q: State, s: &[u8], out: &mut [u8]) -> Handled
             written: 0,
         },
         SettingsCheck::Refused(cause, line) => {
-            let written = put_refused(out, 0, cause, line as u64);
+            let written = put_refused(out, 0, refusal_number(cause), line as u64);
             Handled { state, at, written }
         }
     }

@@ -17,6 +17,7 @@ use lines::put_refused;
 use program::State;
 use rules::LINE_ROOM;
 use rules::Refusal;
+use rules::refusal_number;
 use text::LONGEST;
 
 // What is written where the input ends with n bytes of a line.
@@ -27,14 +28,14 @@ fn put_end(out: &mut [u8], at: usize, q: State, n: usize) -> usize
     let stage = q.stage;
     let line = q.line;
     if stage == 0 {
-        return put_refused(out, at, Refusal::Form, line);
+        return put_refused(out, at, refusal_number(Refusal::Form), line);
     }
     if 2 <= stage {
         return at;
     }
     let begun = either(q.overlong, 0 < n);
     if begun {
-        return put_refused(out, at, Refusal::Sample, line);
+        return put_refused(out, at, refusal_number(Refusal::Sample), line);
     }
     at
 }

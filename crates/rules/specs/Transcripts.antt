@@ -9,6 +9,7 @@ use lib.Dec.{eqb}
 use lib.IntN.{ℤ, pos, natAbs}
 use lib.ListN.{take, drop, getD}
 use Rattle.rules.specs.Refusals.{refusalNumber}
+use Rattle.rules.specs.Settings.{sheetLines}
 use Rattle.rules.specs.Samples.{Equipment}
 use Rattle.rules.specs.Statuses.{statuses}
 use Rattle.rules.specs.Records.{fresh, stepOf}
@@ -53,13 +54,13 @@ reportLine r =
     bytes "(report " ++ (bytes (getD statusWords (r .status) "") ++ (bytes " " ++ (bitDigits 9 (r .bits)
     ++ (spacedNumbers (reportNumbers r) ++ bytes ")\n"))))
 
--- spec 10.5: a refusal line
-unfoldable pub refusedLine : Refusal → ℕ → List ℕ
-refusedLine cause line = bytes "(refused" ++ (spacedNumbers (pos (refusalNumber cause) ∷ pos line ∷ []) ++ bytes ")\n")
+-- spec 10.5: a refusal line, by the number of its cause
+unfoldable pub refusedLine : ℕ → ℕ → List ℕ
+refusedLine number line = bytes "(refused" ++ (spacedNumbers (pos number ∷ pos line ∷ []) ++ bytes ")\n")
 
 abbrev pub answerLine : ℕ → Answer → List ℕ
 answerLine line (Answer.Reported r) = reportLine r
-answerLine line (Answer.Refused cause) = refusedLine cause line
+answerLine line (Answer.Refused cause) = refusedLine (refusalNumber cause) line
 
 -- spec 10.14: room for one line that is written, whichever
 abbrev pub lineRoom : ℕ
@@ -107,13 +108,32 @@ answersFrom e st b n (l ∷ ls) = answerLine n (lineStep e st b l .answer) ++ an
 abbrev pub inputEnd : ℕ
 inputEnd = 1000000000000
 
--- spec 10.6: a refused sheet ends all; the samples begin at input line 14
-abbrev pub onSheet : Equipment → SheetReading → SettingsCheck → List ℕ → List ℕ
-onSheet e r (SettingsCheck.Refused cause line) s = refusedLine cause line
-onSheet e r SettingsCheck.Accepted s = answersFrom e (r .settings) fresh 14 (linesIn (drop (r .start) s))
+-- spec 10.6: the input line of the first sample, after an accepted sheet with these settings
+abbrev pub firstSample : Settings → ℕ
+firstSample st = sheetLines + 1
 
-unfoldable pub transcriptOf : Equipment → List ℕ → List ℕ
-transcriptOf e s = onSheet e (readSheet s) (readSheet s .check) s
+-- what a program says to the lines after an accepted sheet, by the sheet's settings
+abbrev pub Telling : Type 0
+Telling = Settings → List Line → List ℕ
 
-unfoldable pub transcript : Equipment → List ℕ → List ℕ
-transcript e input = transcriptOf e (take inputEnd input)
+-- spec 10.6: a refused sheet ends all
+abbrev pub onSheetBy : Telling → SheetReading → SettingsCheck → List ℕ → List ℕ
+onSheetBy tells r (SettingsCheck.Refused cause line) s = refusedLine (refusalNumber cause) line
+onSheetBy tells r SettingsCheck.Accepted s = tells (r .settings) (linesIn (drop (r .start) s))
+
+unfoldable pub transcriptOfBy : Telling → List ℕ → List ℕ
+transcriptOfBy tells s = onSheetBy tells (readSheet s) (readSheet s .check) s
+
+-- what a program that tells so writes for a whole input
+unfoldable pub transcriptBy : Telling → List ℕ → List ℕ
+transcriptBy tells input = transcriptOfBy tells (take inputEnd input)
+
+-- what `board` says: the answers of a fresh board
+abbrev pub answersTo : Equipment → Telling
+answersTo e st ls = answersFrom e st fresh (firstSample st) ls
+
+abbrev pub transcriptOf : Equipment → List ℕ → List ℕ
+transcriptOf e s = transcriptOfBy (answersTo e) s
+
+abbrev pub transcript : Equipment → List ℕ → List ℕ
+transcript e input = transcriptBy (answersTo e) input

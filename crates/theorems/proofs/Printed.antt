@@ -21,7 +21,7 @@ use Rattle.rules.specs.Refusals.{refusalNumber, sampleNumber, answerNumber}
 use Rattle.rules.specs.Reports.{reportOf}
 use Rattle.rules.specs.Records.{fresh, turnedAway, stepOf}
 use Rattle.rules.specs.History.{History, serving, historyStatus, historyReport}
-use Rattle.rules.specs.Transcripts.{Line, ended, unended, statusWords, spaced, spacedNumbers, reportLine, refusedLine, answerLine, onSampleNumbers}
+use Rattle.rules.specs.Transcripts.{Line, ended, unended, statusWords, spaced, spacedNumbers, reportLine, refusedLine, answerLine, onSampleNumbers, firstSample}
 use Rattle.rules.specs.Transcripts.{lineStep, answersFrom}
 use Rattle.rules.specs.declared.Settings.{Settings}
 use Rattle.rules.specs.declared.Board.{Board}
@@ -102,12 +102,12 @@ report-report : (r : Report) → isReport (reportLine r) ≡ true
 unfolding reportLine untilSpace sameText
 report-report r = refl
 
-refusal-none : (why : Refusal) (n : ℕ) → isReport (refusedLine why n) ≡ false
+refusal-none : (why : Refusal) (n : ℕ) → isReport (refusedLine (refusalNumber why) n) ≡ false
 unfolding refusedLine spacedNumbers spaced untilSpace sameText
 refusal-none why n = refl
 
 -- an answer with a refusal's number is the line of that refusal
-refusal-line : (a : Answer) (why : Refusal) (n : ℕ) → refusalNumber why ≡ answerNumber a → answerLine n a ≡ refusedLine why n
+refusal-line : (a : Answer) (why : Refusal) (n : ℕ) → refusalNumber why ≡ answerNumber a → answerLine n a ≡ refusedLine (refusalNumber why) n
 unfolding refusedLine
 refusal-line (Answer.Reported r) why n e = absurd (omega (arith, number-bounds why .0))
 refusal-line (Answer.Refused c) why n e =
@@ -144,7 +144,7 @@ module _ (e : Equipment) (st : Settings) (ok : settingsAccepted st ≡ true) whe
   said-number h none = refl
   said-number h (some x) = step-number e (recordOf e st h) st x ∙ accepted-none st ok (sampleCauses x)
 
-  said-refusal : (h : History) (n : ℕ) (o : Option Slice) (why : Refusal) → refusalNumber why ≡ first (causesOn o) → said h n o ≡ refusedLine why n
+  said-refusal : (h : History) (n : ℕ) (o : Option Slice) (why : Refusal) → refusalNumber why ≡ first (causesOn o) → said h n o ≡ refusedLine (refusalNumber why) n
   said-refusal h n o why p = refusal-line (stepOn (recordOf e st h) o .answer) why n (p ∙ sym (said-number h o))
 
   -- the record after it
@@ -163,7 +163,7 @@ module _ (e : Equipment) (st : Settings) (ok : settingsAccepted st ≡ true) whe
 
   word-after : (h : History) (n : ℕ) (o : Option Slice)
       → cond (isReport (said h n o)) (printedStatus (said h n o)) (wordOf (historyStatus e st h)) ≡ wordOf (historyStatus e st (withSample h o))
-  word-after h n none = ap (λ (b : Bool). cond b (printedStatus (refusedLine Sample n)) (wordOf (historyStatus e st h))) (refusal-none Sample n)
+  word-after h n none = ap (λ (b : Bool). cond b (printedStatus (refusedLine (refusalNumber Sample) n)) (wordOf (historyStatus e st h))) (refusal-none Sample n)
   word-after h n (some x) = by (sampleAccepted x) refl
     where
       shows : List ℕ → List ℕ
@@ -178,7 +178,7 @@ module _ (e : Equipment) (st : Settings) (ok : settingsAccepted st ≡ true) whe
       by false p =
           let w = refused-step e (recordOf e st h) st x (refused-sample x p) in
           ap (λ (t : Stepped). shows (answerLine n (t .answer))) (w .1)
-          ∙ ap (λ (b : Bool). cond b (printedStatus (refusedLine (w .0) n)) (wordOf (historyStatus e st h))) (refusal-none (w .0) n)
+          ∙ ap (λ (b : Bool). cond b (printedStatus (refusedLine (refusalNumber (w .0)) n)) (wordOf (historyStatus e st h))) (refusal-none (w .0) n)
 
   -- ---- the lines one after the other
 
@@ -221,7 +221,7 @@ module _ (e : Equipment) (st : Settings) (ok : settingsAccepted st ≡ true) whe
 
   module _ (ls : List Line) where
     abbrev texts : List (List ℕ)
-    texts = answersOf [] 14 ls
+    texts = answersOf [] (firstSample st) ls
 
     -- the accepted samples before line k
     abbrev before : ℕ → History
@@ -229,14 +229,14 @@ module _ (e : Equipment) (st : Settings) (ok : settingsAccepted st ≡ true) whe
 
     last-is : (k : ℕ) → lastShown (take k texts) ≡ wordOf (historyStatus e st (before k))
     unfolding historyStatus
-    last-is k = shown-are [] 14 ls k trippedWord refl
+    last-is k = shown-are [] (firstSample st) ls k trippedWord refl
 
     reported : (k : ℕ) (x : Slice) → AcceptedAt ls k x → getD texts k [] ≡ reportLine (reportOf (historyReport e st (x ∷ before k)))
     reported k x a =
-        answer-at [] 14 ls k (a .line) ∙ ap (said (before k) (14 + k)) (a .sample) ∙ said-report (before k) (14 + k) x (a .accepted)
+        answer-at [] (firstSample st) ls k (a .line) ∙ ap (said (before k) (firstSample st + k)) (a .sample) ∙ said-report (before k) (firstSample st + k) x (a .accepted)
 
-    refused : (k : ℕ) (why : Refusal) → CauseAt ls k why → getD texts k [] ≡ refusedLine why (14 + k)
-    refused k why a = answer-at [] 14 ls k (a .line) ∙ said-refusal (before k) (14 + k) (sampleOn (lineAt ls k)) why (a .number)
+    refused : (k : ℕ) (why : Refusal) → CauseAt ls k why → getD texts k [] ≡ refusedLine (refusalNumber why) (firstSample st + k)
+    refused k why a = answer-at [] (firstSample st) ls k (a .line) ∙ said-refusal (before k) (firstSample st + k) (sampleOn (lineAt ls k)) why (a .number)
 
     either : (k : ℕ) → k < length ls → ((x : Slice) × AcceptedAt ls k x) ⊎ ((why : Refusal) × CauseAt ls k why)
     either k l = by (sampleOn (lineAt ls k)) refl
@@ -284,13 +284,13 @@ module _ (e : Equipment) (st : Settings) (ok : settingsAccepted st ≡ true) whe
           (λ full w. false≢true (sym (word-tripped (x ∷ before k) (sym (word-now k x a) ∙ w)) ∙ law .1 full)),
         )
 
-    pub lines-printed : Sound e → Printed e st ls (answersFrom e st fresh 14 ls)
+    pub lines-printed : Sound e → Printed e st ls (answersFrom e st fresh (firstSample st) ls)
     unfolding recordOf
     lines-printed sound =
         record {
           answers = texts;
-          whole = whole-is [] 14 ls;
-          one-each = as-many [] 14 ls;
+          whole = whole-is [] (firstSample st) ls;
+          one-each = as-many [] (firstSample st) ls;
           either = either;
           reports = reported;
           refuses = refused;

@@ -6,17 +6,11 @@ use Rattle.lines.proofs.Whole.{refused-pieces}
 use Rattle.lines.proofs.put_refused.Statement.{statement}
 use Rattle.lines.proofs.put_refused.Tie as tie
 
-refusal-number-requires : tie.Need-refusal-number-requires
-refusal-number-requires c κs = search needs
-
 slice-aggregate-put : tie.Need-slice-aggregate-put
 slice-aggregate-put c = search needs
 
 put-requires : tie.Need-put-requires
 put-requires c κs = search needs
-
-cast-put-long-number : tie.Need-cast-put-long-number
-cast-put-long-number c = search needs
 
 put-long-number-requires : tie.Need-put-long-number-requires
 put-long-number-requires c κs = search needs
@@ -39,20 +33,16 @@ returns c =
     let line = close .before .before .before .before .before in
     let number = line .before .before .before .before in
     let begin = number .before .before .before .before in
-    let cause = begin .before .before .before in
-    let start = cause .before .before in
-    let named = rw (cause .refusal-number .ensures) at (number .put-long-number .ensures .0) in
-    rw (refused-pieces (start .args .cause) (start .args .line))
-    (and-then (begin .put .ensures) (and-then named (and-then (line .put-long-number2 .ensures .0) (close .put2 .ensures))))
+    let start = begin .before .before .before .before in
+    rw (refused-pieces (start .args .number) (start .args .line))
+    (and-then (begin .put .ensures) (and-then (number .put-long-number .ensures .0) (and-then (line .put-long-number2 .ensures .0) (close .put2 .ensures))))
 
 pub put-refused-spec : {M : Type 1} → statement M
 put-refused-spec =
     tie.close
     (tie.spec
-    refusal-number-requires
     slice-aggregate-put
     put-requires
-    cast-put-long-number
     put-long-number-requires
     put-long-number-requires-2
     slice-aggregate-put-2

@@ -17,6 +17,9 @@ enum-told c = search needs
 enum-known-check : tie.Need-enum-known-check
 enum-known-check c = search needs
 
+refusal-number-requires : tie.Need-refusal-number-requires
+refusal-number-requires c κs = search needs
+
 cast-put-refused : tie.Need-cast-put-refused
 cast-put-refused c = search needs
 
@@ -36,13 +39,14 @@ same-length c = search needs
 
 returns-2 : tie.Need-returns-2
 returns-2 c =
-    let a = c .before .before .before .before .before .before .before .before .before .before .before in
+    let a = c .before .before .before .before .before .before .before .before .before .before .before .before in
     let s = now (a .args .s) in
     let d = now (a .args .out) in
-    let r = c .before .before .before .before .before .before .before .before .sheet-lines in
-    let known = c .before .before .before .before .before .check .given .1 in
+    let r = c .before .before .before .before .before .before .before .before .before .sheet-lines in
+    let known = c .before .before .before .before .before .before .check .given .1 in
+    let number = c .before .before .before .refusal-number .ensures in
     let put = c .before .before .put-refused .ensures in
-    (λ e. sheet-carried e (a .args .q) s d _ (r .result) _ (r .ensures) (a .pre .1) (rw known put), r .ensures .stuck)
+    (λ e. sheet-carried e (a .args .q) s d _ (r .result) _ (r .ensures) (a .pre .1) (rw (known, ← number) put), r .ensures .stuck)
 
 pub on-sheet-spec : {M : Type 1} → statement M
 on-sheet-spec =
@@ -51,6 +55,7 @@ on-sheet-spec =
     sheet-lines-requires
     enum-told
     enum-known-check
+    refusal-number-requires
     cast-put-refused
     put-refused-requires
     returns

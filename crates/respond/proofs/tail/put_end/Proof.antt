@@ -9,6 +9,9 @@ use borrow.Author.Needs.{needs}
 use Rattle.respond.proofs.tail.put_end.Statement.{statement}
 use Rattle.respond.proofs.tail.put_end.Tie as tie
 
+refusal-number-requires : tie.Need-refusal-number-requires
+refusal-number-requires c κs = search needs
+
 put-refused-requires : tie.Need-put-refused-requires
 put-refused-requires c κs = search needs
 
@@ -16,7 +19,7 @@ same-length : tie.Need-same-length
 same-length c = search needs
 
 returns : tie.Need-returns
-returns c = λ l e. rw (← end-sheet (c .before .before .before .before .before .before .args .q) l (c .before .before .before .before .if1 .taken))
+returns c = λ l e. rw (← end-sheet (c .before .before .before .before .before .before .before .args .q) l (c .before .before .before .before .before .if1 .taken), ← c .before .before .before .refusal-number .ensures)
     (c .before .before .put-refused .ensures)
 
 returns-2 : tie.Need-returns-2
@@ -26,6 +29,9 @@ returns-2 c = λ l e. rw (← end-done (c .before .before .before .args .q) l (c
 either-requires : tie.Need-either-requires
 either-requires c κs = search needs
 
+refusal-number-requires-2 : tie.Need-refusal-number-requires-2
+refusal-number-requires-2 c κs = search needs
+
 put-refused-requires-2 : tie.Need-put-refused-requires-2
 put-refused-requires-2 c κs = search needs
 
@@ -33,10 +39,12 @@ same-length-2 : tie.Need-same-length-2
 same-length-2 c = search needs
 
 returns-3 : tie.Need-returns-3
-returns-3 c = λ l e. rw
-    (← end-sample (c .before .before .before .before .before .before .before .before .before .args .q) l
-    (c .before .before .before .before .before .before .before .if1 .left) (omega arith)
-    (rw e (sym (c .before .before .before .before .before .either .ensures) ∙ c .before .before .before .before .if3 .taken)))
+returns-3 c = λ l e. rw (
+  ← end-sample (c .before .before .before .before .before .before .before .before .before .before .args .q) l
+      (c .before .before .before .before .before .before .before .before .if1 .left) (omega arith)
+      (rw e (sym (c .before .before .before .before .before .before .either .ensures) ∙ c .before .before .before .before .before .if3 .taken)),
+  ← c .before .before .before .refusal-number2 .ensures,
+)
     (c .before .before .put-refused2 .ensures)
 
 returns-4 : tie.Need-returns-4
@@ -49,11 +57,13 @@ pub put-end-spec : {M : Type 1} → statement M
 put-end-spec =
     tie.close
     (tie.spec
+    refusal-number-requires
     put-refused-requires
     same-length
     returns
     returns-2
     either-requires
+    refusal-number-requires-2
     put-refused-requires-2
     same-length-2
     returns-3

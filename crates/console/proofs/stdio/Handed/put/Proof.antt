@@ -1,0 +1,11 @@
+-- `console::stdio::Handed::put` meets its contract.
+-- Assumes nothing.
+use borrow.Author.Needs.{needs}
+use Rattle.console.proofs.stdio.Handed.put.Statement.{statement}
+use Rattle.console.proofs.stdio.Handed.put.Tie as tie
+
+returns : tie.Need-returns
+returns c = search needs
+
+pub put-spec : {M : Type 1} → statement M
+put-spec = tie.close (tie.spec returns)

@@ -1,0 +1,11 @@
+-- `console::stdio::Input::unread` meets its contract.
+-- Assumes nothing.
+use borrow.Author.Needs.{needs}
+use Rattle.console.proofs.stdio.Input.unread.Statement.{statement}
+use Rattle.console.proofs.stdio.Input.unread.Tie as tie
+
+returns : tie.Need-returns
+returns c = search needs
+
+pub unread-spec : {M : Type 1} → statement M
+unread-spec = tie.close (tie.spec returns)
