@@ -19,7 +19,7 @@ use Rattle.laws.proofs.Demand3.{demand3}
 use Rattle.laws.proofs.Recovery.{restores-power}
 use Rattle.laws.proofs.RideThroughEnds.{ceases-beyond-ride-through}
 use Rattle.laws.proofs.Droop.{droops}
-use Rattle.laws.proofs.RampPairs.{ramps-told-within-five, ramps-untold-within-four}
+use Rattle.laws.proofs.RampPairs.{ramps-told-within-five}
 use Rattle.laws.proofs.Bits.{bits-unpacked, reports-items, two-histories-reported}
 use Rattle.laws.proofs.LentRecords.{reads-records}
 use Rattle.laws.proofs.Printed.{words-tell}
@@ -37,7 +37,8 @@ use Rattle.formats.proofs.Samples.{sample-reads-back, sample-written-out}
 use Rattle.program.specs.Sessions.{inputOf}
 use Rattle.program.proofs.Sessions.{transcript-law}
 use Rattle.program.proofs.Standing.{standing-law}
-use Rattle.demands.specs.Demands.{ours, OurRefusals, OurSheetRefusals, OurTranscript, OurTripAndReturn, OurTwoHistories, SheetsReadBack, SheetsWrittenOut}
+use Rattle.equipment.specs.Ours.{ours}
+use Rattle.demands.specs.Demands.{OurRefusals, OurSheetRefusals, OurTranscript, OurTripAndReturn, OurTwoHistories, SheetsReadBack, SheetsWrittenOut}
 use Rattle.demands.specs.Demands.{OneSheetReading, DefaultSheetWritten, UnderAcceptedTexts, LinesOfForms, SampleLinesAnswered, OneSampleAnswer}
 use Rattle.demands.specs.Demands.{AcceptedSamplesWritable, SampleLinesReadBack, SampleLinesWrittenOut, EveryCounter, SensingRule, EdgeValues}
 use Rattle.demands.specs.Demands.{AnyTripAndReturn, AnyTwoHistories, OurEquipmentSound}
@@ -74,8 +75,8 @@ use Rattle.demands.proofs.Edges.{edges-hold}
 use Rattle.demands.proofs.Lent.{lent-read}
 use Rattle.demands.proofs.Printed.{prints-by-history, one-printing, samples-on-lines}
 use Rattle.demands.proofs.Writable.{accepted-writable}
-use Rattle.demands.proofs.Sound.{our-equipment-sound}
-use Rattle.demands.proofs.LongestRamp.{longestRamp, longest-accepted}
+use Rattle.equipment.proofs.Sound.{our-equipment-sound}
+use Rattle.equipment.proofs.LongestRamp.{ramps-untold}
 
 pub ourRefusals : OurRefusals
 ourRefusals = refuses-rightly ourEquipment
@@ -198,7 +199,7 @@ pub anyRampsTold : AnyRampsTold
 anyRampsTold = ramps-told-within-five
 
 pub anyRampsUntold : AnyRampsUntold
-anyRampsUntold e sound = ramps-untold-within-four e sound longestRamp longest-accepted (omega arith) refl
+anyRampsUntold = ramps-untold
 
 pub ourRampsUntold : OurRampsUntold
 ourRampsUntold = anyRampsUntold ourEquipment our-equipment-sound

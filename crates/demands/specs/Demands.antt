@@ -53,7 +53,7 @@ use Rattle.roots.specs.Root.{IsRoot}
 use Rattle.program.specs.States.{isDone}
 use Rattle.program.specs.Sessions.{Delivery, opened, during, ending, inputOf, TranscriptLaw}
 use Rattle.program.specs.Standing.{StandingLaw}
-use Rattle.claims.specs.Calls.{Program, ruledBy, Operations, operationsBy}
+use Rattle.claims.specs.Calls.{Program, ruledBy}
 use Rattle.claims.specs.Sound.{Sound}
 use Rattle.claims.specs.Alike.{Alike}
 use Rattle.claims.specs.Recovery.{RestoresPower}
@@ -87,15 +87,10 @@ use prog.Memory.{Memory}
 use prog.Routine.{Routine}
 use ghost.Atoms.{Atoms}
 use contract.Monad.{Fun}
+use Rattle.equipment.specs.Ours.{ours, ourOperations}
 use Rattle.demands.specs.Contracts.{ContractsSay, CodeMeets}
 use Rattle.demands.specs.Edges.{EdgesHold}
 use Rattle.demands.specs.Lent.{LentRead}
-
-abbrev pub ours : Program
-ours = ruledBy ourEquipment
-
-abbrev pub ourOperations : Operations
-ourOperations = operationsBy ourEquipment
 
 -- ---- the three demands
 

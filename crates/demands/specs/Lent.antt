@@ -11,7 +11,7 @@ use Rattle.rules.specs.Regions.{ourEquipment}
 use Rattle.rules.specs.Records.{readAs}
 use Rattle.rules.specs.declared.Settings.{Settings}
 use Rattle.rules.specs.declared.Board.{Board}
-use Rattle.demands.specs.Shams.{limit, exampleSheet}
+use Rattle.equipment.specs.ExampleSheets.{limit, exampleSheet}
 
 -- uv1 uv2 ov1 ov2 uf1 uf2 of1 of2 and the ninth
 abbrev pub nine : ℕ → ℕ → ℕ → ℕ → ℕ → ℕ → ℕ → ℕ → ℕ → List ℕ

@@ -17,7 +17,8 @@ use Rattle.rules.specs.declared.SettingsCheck.{SettingsCheck}
 use Rattle.formats.specs.Marks.{filledIn}
 use Rattle.formats.specs.Sheets.{writtenLines, writtenSheet, Complete, ReadsSheetsBack, AcceptsSheetsOnly}
 use Rattle.formats.proofs.Sheets.{sheet-read-back}
-use Rattle.demands.specs.Shams.{exampleSheet, refusesNoWait, takesUnended}
+use Rattle.equipment.specs.ExampleSheets.{exampleSheet}
+use Rattle.shams.specs.Shams.{refusesNoWait, takesUnended}
 
 abbrev pub quick : Settings
 quick = exampleSheet 0

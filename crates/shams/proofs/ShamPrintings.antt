@@ -13,7 +13,7 @@ use Rattle.rules.specs.Sheets.{readFrom, readSheet}
 use Rattle.rules.specs.Transcripts.{spaced, spacedNumbers, refusedLine, linesAfter, linesIn, lineStep, answersFrom, transcriptOf, transcript}
 use Rattle.rules.specs.declared.Refusal.the-variants.{Form}
 use Rattle.claims.specs.Printed.{PrintsByHistory}
-use Rattle.demands.specs.Shams.{goesOn, saysNothing}
+use Rattle.shams.specs.Shams.{goesOn, saysNothing}
 
 abbrev twoEmpty : List ℕ
 twoEmpty = 10 ∷ 10 ∷ []

@@ -19,8 +19,8 @@ use Rattle.explain.specs.Numbers.{statusRuleNumber, limitPlace, wattsRuleNumber
 use Rattle.explain.specs.Explained.{regionCause, historyStatusRule, historyWattsRule}
 use Rattle.explain.specs.Explains.{NamesStatusRule, NamesWattsRule}
 use Rattle.explain.proofs.Naming.{one-status-rule, one-watts-rule}
-use Rattle.demands.specs.Shams.{exampleSheet}
-use Rattle.demands.specs.ShamRules.{waitsAtTrip, lastLimit, bestRegion, lastAmongEquals, droopLast, statusInMandatory}
+use Rattle.equipment.specs.ExampleSheets.{exampleSheet}
+use Rattle.shams.specs.ShamRules.{waitsAtTrip, lastLimit, bestRegion, lastAmongEquals, droopLast, statusInMandatory}
 
 abbrev quick : Settings
 quick = exampleSheet 0

@@ -29,17 +29,18 @@ use Rattle.claims.specs.LentRecords.{ReadsRecords}
 use Rattle.claims.specs.Printed.{PrintsByHistory}
 use Rattle.carryover.specs.Carries.{ourForward, ourBack, CarryRefusedRightly, RoundTrips, CarriesRecords}
 use Rattle.explain.specs.Explains.{NamesStatusRule, NamesWattsRule}
-use Rattle.demands.specs.Shams.{exampleSheet, tripsEarly, inventsCounters, alwaysTripped, repeatsFirst, keepsRecord, turnsAway}
-use Rattle.demands.specs.Shams.{inventsBits, hidesTrips, saysTripped, savedWithoutRamp, savedWithoutNinth, savedWithoutRecovery, savedWithoutSide, savedWithoutHeld, reportWithoutBits, refusesNoWait}
-use Rattle.demands.specs.Shams.{reportFullAtOnce, reportUnheld, reportWithheld, stopsCounting, reportRidingOn, reportCeasingAt, reportMomentary}
-use Rattle.demands.specs.Shams.{takesAsLent, takesUnended, largeNoNumber, stepsUnended, stepsPastReturn}
-use Rattle.demands.specs.Shams.{turnsAwayLastCode, goesOn, saysNothing}
-use Rattle.demands.specs.ShamCarryOvers.{addedFirst, roomFirst, dropsAny, carriesWhatFits, appendsLess, swapsForward, swapsBack}
-use Rattle.demands.specs.ShamRamps.{sixSamples, reportLonger, reportCounted}
-use Rattle.demands.specs.ShamDroops.{reportHeldAnew, reportHeldOwn, reportHeldAcross, reportLimited, reportRoundedUp, reportEndedEarly, reportSideKept}
-use Rattle.demands.specs.ShamRules.{waitsAtTrip, lastLimit, bestRegion, lastAmongEquals, droopLast, statusInMandatory}
-use Rattle.demands.specs.ShamRefusals.{refusesLastCode, storesReading, sampleFirst, writesWhatFits, linesFromZero, handsRest}
-use Rattle.demands.specs.Demands.{ours}
+use Rattle.equipment.specs.ExampleSheets.{exampleSheet}
+use Rattle.shams.specs.Shams.{tripsEarly, inventsCounters, alwaysTripped, repeatsFirst, keepsRecord, turnsAway}
+use Rattle.shams.specs.Shams.{inventsBits, hidesTrips, saysTripped, savedWithoutRamp, savedWithoutNinth, savedWithoutRecovery, savedWithoutSide, savedWithoutHeld, reportWithoutBits, refusesNoWait}
+use Rattle.shams.specs.Shams.{reportFullAtOnce, reportUnheld, reportWithheld, stopsCounting, reportRidingOn, reportCeasingAt, reportMomentary}
+use Rattle.shams.specs.Shams.{takesAsLent, takesUnended, largeNoNumber, stepsUnended, stepsPastReturn}
+use Rattle.shams.specs.Shams.{turnsAwayLastCode, goesOn, saysNothing}
+use Rattle.shams.specs.ShamCarryOvers.{addedFirst, roomFirst, dropsAny, carriesWhatFits, appendsLess, swapsForward, swapsBack}
+use Rattle.shams.specs.ShamRamps.{sixSamples, reportLonger, reportCounted}
+use Rattle.shams.specs.ShamDroops.{reportHeldAnew, reportHeldOwn, reportHeldAcross, reportLimited, reportRoundedUp, reportEndedEarly, reportSideKept}
+use Rattle.shams.specs.ShamRules.{waitsAtTrip, lastLimit, bestRegion, lastAmongEquals, droopLast, statusInMandatory}
+use Rattle.shams.specs.ShamRefusals.{refusesLastCode, storesReading, sampleFirst, writesWhatFits, linesFromZero, handsRest}
+use Rattle.equipment.specs.Ours.{ours}
 
 -- Seven sham boards do not meet demand 2 on the sheet of spec 10.11. Five are those of spec 13.6. Two turn away good
 -- samples: one moves its record as if it had taken them, one leaves it. That sheet is accepted, so that demand 2,

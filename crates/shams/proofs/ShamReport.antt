@@ -20,7 +20,7 @@ use Rattle.laws.proofs.Limits.{LevelIn, LimitsIn, limits-in}
 use Rattle.laws.proofs.InRange.{breaks-none}
 use Rattle.laws.proofs.Events.{tripped-side, side-none}
 use Rattle.laws.proofs.Trace.{same-items}
-use Rattle.demands.specs.Shams.{reportWithoutBits}
+use Rattle.shams.specs.Shams.{reportWithoutBits}
 
 -- a sample put before all others
 abbrev under : History → Slice → History

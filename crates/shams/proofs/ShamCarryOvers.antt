@@ -14,7 +14,7 @@ use Rattle.claims.specs.FirstCause.{cause, first}
 use Rattle.carryover.specs.CarryOver.{oldLength, addedBytes, sameBytes, forwardAnswer, backAnswer, forwardInto, forwardCauses, backCauses}
 use Rattle.carryover.proofs.Carrying.{refused-rightly, round-trips, new-is, old-is}
 use Rattle.carryover.specs.Carries.{ourForward, ourBack, CarryRefusedRightly, newIn, oldIn, RoundTrips, oldFields, oldImage, CarriesRecords}
-use Rattle.demands.specs.ShamCarryOvers.{addedFirst, roomFirst, dropsAny, carriesWhatFits, appendsLess, swapped, swapsForward, swapsBack}
+use Rattle.shams.specs.ShamCarryOvers.{addedFirst, roomFirst, dropsAny, carriesWhatFits, appendsLess, swapped, swapsForward, swapsBack}
 
 abbrev zeros : ℕ → List ℕ
 zeros n = replicate n 0

@@ -3,29 +3,30 @@
 use Rattle.rules.specs.Regions.{ourEquipment}
 use Rattle.rules.specs.History.{historyReport}
 use Rattle.rules.specs.Images.{savedInto}
-use Rattle.laws.proofs.RampPairs.{untold-not-told}
-use Rattle.demands.specs.Demands.{ours}
-use Rattle.demands.specs.Caught.{ShamsCaught, ShamImagesCaught, ShamReadingsCaught}
-use Rattle.demands.specs.Caught.{ShamRecoveryCaught}
-use Rattle.demands.specs.Caught.{ShamRideThroughEndsCaught}
-use Rattle.demands.specs.Caught.{ShamRefusalsCaught, ShamReportsCaught, ShamPrintingsCaught}
-use Rattle.demands.specs.Caught.{ShamCarryOversCaught}
-use Rattle.demands.specs.Caught.{ShamRulesCaught}
-use Rattle.demands.specs.Caught.{ShamRampsCaught}
-use Rattle.demands.specs.Caught.{ShamDroopsCaught}
-use Rattle.demands.proofs.ShamDroops.{anew, own, across, limited, rounded-up, ended-early, side-kept}
-use Rattle.demands.proofs.ShamRamps.{longer-not-told, longer-shows, counted-at-once}
-use Rattle.demands.proofs.Demands.{ourRampsTold, ourRampsUntold}
-use Rattle.demands.proofs.ShamRules.{waits, turned, best, last, droop-last, mandatory}
-use Rattle.demands.proofs.ShamCarryOvers.{added-first, room-first, what-fits, appends-less, drops-any, swaps-caught}
-use Rattle.demands.proofs.Shams.{quick-accepted, waiting-accepted, early, invented, tripped, repeated, kept, refusing, leaving, as-lent}
-use Rattle.demands.proofs.Shams.{no-ramp, no-ninth, no-recovery, no-side, no-held, no-bits, full-at-once, unheld, withheld}
-use Rattle.demands.proofs.Shams.{stopped, riding-on, low-end, high-end, momentary}
-use Rattle.demands.proofs.ShamStatus.{only-reports, only-trips, only-returns}
-use Rattle.demands.proofs.ShamReadings.{turned-away, let-in}
-use Rattle.demands.proofs.ShamPrintings.{no-more, not-nothing}
-use Rattle.demands.proofs.ShamLines.{no-large, no-unended, no-return}
-use Rattle.demands.proofs.ShamRefusals.{last-code, reading-stored, sample-first, written-short, good-sheet, from-zero, rest-handed}
+use Rattle.laws.proofs.RampPairs.{ramps-told-within-five, untold-not-told}
+use Rattle.equipment.specs.Ours.{ours}
+use Rattle.shams.specs.Caught.{ShamsCaught, ShamImagesCaught, ShamReadingsCaught}
+use Rattle.shams.specs.Caught.{ShamRecoveryCaught}
+use Rattle.shams.specs.Caught.{ShamRideThroughEndsCaught}
+use Rattle.shams.specs.Caught.{ShamRefusalsCaught, ShamReportsCaught, ShamPrintingsCaught}
+use Rattle.shams.specs.Caught.{ShamCarryOversCaught}
+use Rattle.shams.specs.Caught.{ShamRulesCaught}
+use Rattle.shams.specs.Caught.{ShamRampsCaught}
+use Rattle.shams.specs.Caught.{ShamDroopsCaught}
+use Rattle.shams.proofs.ShamDroops.{anew, own, across, limited, rounded-up, ended-early, side-kept}
+use Rattle.shams.proofs.ShamRamps.{longer-not-told, longer-shows, counted-at-once}
+use Rattle.equipment.proofs.Sound.{our-equipment-sound}
+use Rattle.equipment.proofs.LongestRamp.{ramps-untold}
+use Rattle.shams.proofs.ShamRules.{waits, turned, best, last, droop-last, mandatory}
+use Rattle.shams.proofs.ShamCarryOvers.{added-first, room-first, what-fits, appends-less, drops-any, swaps-caught}
+use Rattle.shams.proofs.Shams.{quick-accepted, waiting-accepted, early, invented, tripped, repeated, kept, refusing, leaving, as-lent}
+use Rattle.shams.proofs.Shams.{no-ramp, no-ninth, no-recovery, no-side, no-held, no-bits, full-at-once, unheld, withheld}
+use Rattle.shams.proofs.Shams.{stopped, riding-on, low-end, high-end, momentary}
+use Rattle.shams.proofs.ShamStatus.{only-reports, only-trips, only-returns}
+use Rattle.shams.proofs.ShamReadings.{turned-away, let-in}
+use Rattle.shams.proofs.ShamPrintings.{no-more, not-nothing}
+use Rattle.shams.proofs.ShamLines.{no-large, no-unended, no-return}
+use Rattle.shams.proofs.ShamRefusals.{last-code, reading-stored, sample-first, written-short, good-sheet, from-zero, rest-handed}
 
 pub shamsCaught : ShamsCaught
 shamsCaught =
@@ -61,8 +62,8 @@ shamImagesCaught = record { accepted = (quick-accepted, waiting-accepted); ramp 
 pub shamRampsCaught : ShamRampsCaught
 shamRampsCaught =
     record {
-      six = λ u. untold-not-told savedInto (historyReport ourEquipment) ours 5 u ourRampsTold;
-      four = untold-not-told savedInto (historyReport ourEquipment) ours 4 ourRampsUntold;
+      six = λ u. untold-not-told savedInto (historyReport ourEquipment) ours 5 u (ramps-told-within-five ourEquipment our-equipment-sound);
+      four = untold-not-told savedInto (historyReport ourEquipment) ours 4 (ramps-untold ourEquipment our-equipment-sound);
       longer = longer-not-told;
       longer-shows = longer-shows;
       counted = counted-at-once;

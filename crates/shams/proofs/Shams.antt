@@ -33,11 +33,12 @@ use Rattle.claims.specs.Recovery.{RestoresPower}
 use Rattle.claims.specs.RideThroughEnds.{CeasesBeyondRideThrough}
 use Rattle.claims.specs.TwoHistories.{TwoHistoriesBy}
 use Rattle.laws.proofs.RampPairs.{buffer}
-use Rattle.demands.specs.Shams.{exampleSheet, tripsEarly, inventsCounters, alwaysTripped, repeatsFirst, keepsRecord, turnsAway, takesAsLent}
-use Rattle.demands.specs.ShamRefusals.{refusesLastCode}
-use Rattle.demands.specs.Shams.{turnsAwayLastCode, savedWithoutRamp, savedWithoutNinth, savedWithoutRecovery, savedWithoutSide, savedWithoutHeld, reportWithoutBits}
-use Rattle.demands.specs.Shams.{reportFullAtOnce, reportUnheld, reportWithheld, stopsCounting, reportRidingOn, reportCeasingAt, reportMomentary}
-use Rattle.demands.proofs.ShamReport.{agree-without-bits}
+use Rattle.equipment.specs.ExampleSheets.{exampleSheet}
+use Rattle.shams.specs.Shams.{tripsEarly, inventsCounters, alwaysTripped, repeatsFirst, keepsRecord, turnsAway, takesAsLent}
+use Rattle.shams.specs.ShamRefusals.{refusesLastCode}
+use Rattle.shams.specs.Shams.{turnsAwayLastCode, savedWithoutRamp, savedWithoutNinth, savedWithoutRecovery, savedWithoutSide, savedWithoutHeld, reportWithoutBits}
+use Rattle.shams.specs.Shams.{reportFullAtOnce, reportUnheld, reportWithheld, stopsCounting, reportRidingOn, reportCeasingAt, reportMomentary}
+use Rattle.shams.proofs.ShamReport.{agree-without-bits}
 
 abbrev quick : Settings
 quick = exampleSheet 0

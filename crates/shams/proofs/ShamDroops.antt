@@ -15,8 +15,8 @@ use Rattle.rules.specs.Service.{varsOf, wattsOf}
 use Rattle.rules.specs.History.{History, streak, serving, climbed, sinceCessation, historyStatus, historyShare, historyRecovery, historySide, wattsHolding, historyHeld, historyWatts, historyVars, historyReport}
 use Rattle.rules.specs.declared.Settings.{Settings}
 use Rattle.claims.specs.Droop.{Droops}
-use Rattle.demands.specs.Shams.{exampleSheet}
-use Rattle.demands.specs.ShamDroops.{droopingBy, reportHeldAnew, reportHeldOwn, reportHeldAcross, reportLimited, reportRoundedUp, reportEndedEarly, reportSideKept}
+use Rattle.equipment.specs.ExampleSheets.{exampleSheet}
+use Rattle.shams.specs.ShamDroops.{droopingBy, reportHeldAnew, reportHeldOwn, reportHeldAcross, reportLimited, reportRoundedUp, reportEndedEarly, reportSideKept}
 
 abbrev quick : Settings
 quick = exampleSheet 0

@@ -35,10 +35,10 @@ use Rattle.laws.proofs.Shares.{SharesAgree}
 use Rattle.laws.proofs.RampBytes.{counts-differ}
 use Rattle.laws.proofs.RampAlone.{withRamp, image-alone, histories-agree}
 use Rattle.laws.proofs.RampPairs.{buffer, room, untold-not-told}
-use Rattle.demands.specs.ShamRamps.{longer, sixSamples, reportLonger, reportCounted}
-use Rattle.demands.specs.Demands.{ours}
-use Rattle.demands.proofs.Sound.{our-equipment-sound}
-use Rattle.demands.proofs.LongestRamp.{longestRamp, longest-accepted}
+use Rattle.shams.specs.ShamRamps.{longer, sixSamples, reportLonger, reportCounted}
+use Rattle.equipment.specs.Ours.{ours}
+use Rattle.equipment.proofs.Sound.{our-equipment-sound}
+use Rattle.equipment.proofs.LongestRamp.{longestRamp, longest-accepted}
 
 -- ---- ramps a step longer: the board is that of its histories
 

@@ -19,7 +19,8 @@ use Rattle.formats.specs.Marks.{filledIn, suits, forms, formAt, ReadsForms}
 use Rattle.formats.specs.Samples.{writable, writtenSample, IsSampleLine, AnswersSamples}
 use Rattle.formats.proofs.Samples.{sample-read}
 use Rattle.formats.proofs.SampleLines.{samples-answered}
-use Rattle.demands.specs.Shams.{exampleSheet, largeNoNumber, stepsUnended, withoutReturn, stepsPastReturn}
+use Rattle.equipment.specs.ExampleSheets.{exampleSheet}
+use Rattle.shams.specs.Shams.{largeNoNumber, stepsUnended, withoutReturn, stepsPastReturn}
 
 -- ---- a clearing time of 100001, outside its row, is a number
 

@@ -30,9 +30,10 @@ use Rattle.laws.proofs.FirstCause.{step-number}
 use Rattle.laws.proofs.Trace.{service-is}
 use Rattle.laws.proofs.Trip.{return-law, return-continuous}
 use Rattle.laws.proofs.Demand2.{demand2, accepted-step, refused-step, service-of, statuses-trip, statuses-return, statuses-continuous}
-use Rattle.demands.specs.Shams.{exampleSheet, reshown, showing, turnedOver, entering, tripped, inventsBits, hidesTrips, saysTripped}
-use Rattle.demands.proofs.Sound.{our-equipment-sound}
-use Rattle.demands.proofs.Shams.{quick-accepted}
+use Rattle.equipment.specs.ExampleSheets.{exampleSheet}
+use Rattle.shams.specs.Shams.{reshown, showing, turnedOver, entering, tripped, inventsBits, hidesTrips, saysTripped}
+use Rattle.equipment.proofs.Sound.{our-equipment-sound}
+use Rattle.shams.proofs.Shams.{quick-accepted}
 
 abbrev quick : Settings
 quick = exampleSheet 0

@@ -23,9 +23,10 @@ use Rattle.formats.specs.Sheets.{writtenSheet}
 use Rattle.claims.specs.FirstCause.{RefusesRightly}
 use Rattle.claims.specs.SheetCauses.{FirstCauseAt, SheetsRefusedRightly}
 use Rattle.laws.proofs.SheetCauses.{sheets-refused-rightly}
-use Rattle.demands.specs.Shams.{exampleSheet, refusesNoWait}
-use Rattle.demands.specs.ShamRefusals.{refusesLastCode, storesReading, sampleFirst, writesWhatFits, linesFromZero, handsRest}
-use Rattle.demands.proofs.ShamReadings.{quick-read}
+use Rattle.equipment.specs.ExampleSheets.{exampleSheet}
+use Rattle.shams.specs.Shams.{refusesNoWait}
+use Rattle.shams.specs.ShamRefusals.{refusesLastCode, storesReading, sampleFirst, writesWhatFits, linesFromZero, handsRest}
+use Rattle.shams.proofs.ShamReadings.{quick-read}
 
 abbrev quick : Settings
 quick = exampleSheet 0
