@@ -1,3 +1,3 @@
 pub mod Sound
 pub mod LongestRamp
-pub mod Quick
+pub mod Examples

@@ -1,3 +1,4 @@
+pub mod Opened
 pub mod ShamReport
 pub mod Shams
 pub mod ShamStatus
