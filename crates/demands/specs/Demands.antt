@@ -1,5 +1,5 @@
 -- What is proved of the board: the page to open first. Each name below is a statement. The proof of `X` is `x` in
--- proofs/Demands.antt. The second page, Caught.antt, shows that the statements are not empty.
+-- proofs/Demands.antt. The second page, shams/specs/Caught.antt, shows that the statements are not empty.
 --
 -- How the page speaks of the code. A statement is about definitions, and each public operation has a contract that is
 -- an equation with one of them, proved in its own crate for every input there can be. `CodeContracts`, at the end,

@@ -1,6 +1,7 @@
 -- The second page: the demands are not empty. Wrong boards, operations, readings, images, reports and rules, called
 -- shams, do not meet them. The shams are defined in Shams.antt, ShamRefusals.antt, ShamCarryOvers.antt,
--- ShamRules.antt, ShamRamps.antt and ShamDroops.antt. The proof of `X` is `x` in proofs/Caught.antt.
+-- ShamRules.antt, ShamRamps.antt and ShamDroops.antt. A statement is said of an equipment; the proof of `X ourEquipment`
+-- is `x` in proofs/Caught.antt.
 -- Assumes nothing.
 use mathlib.Core.Path.{_≡_}
 use mathlib.Core.Bool.{true}
