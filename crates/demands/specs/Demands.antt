@@ -433,7 +433,7 @@ pub record OneRuling : Type 0 where
 
 -- The values of spec 14.1, one table: specs/Edges.antt.
 abbrev pub EdgeValues : Type 0
-EdgeValues = EdgesHold
+EdgeValues = EdgesHold ourEquipment
 
 -- ---- wider than asked: any sensing table and any voltage regions with the facts of `Sound`, which ours have
 
