@@ -281,21 +281,23 @@ pub exportedRefusals : ExportedRefusals
 exportedRefusals = exported-refuse
 
 pub exportedDemands : ExportedDemands
-exportedDemands before =
-    (subst⁻¹ (Demand2 ourEquipment) (board-is before) ourTripAndReturn, subst⁻¹ (Demand3 ourEquipment) (board-is before) ourTwoHistories)
+exportedDemands e sound before =
+    (subst⁻¹ (Demand2 e) (board-is e before) (anyTripAndReturn e sound), subst⁻¹ (Demand3 e) (board-is e before) (anyTwoHistories e sound))
 
 pub exportedRamps : ExportedRamps
-exportedRamps before = (
-  subst⁻¹ (λ (p : Program). RampsTold ourEquipment p 5) (board-is before) ourRampsTold,
-  subst⁻¹ (λ (p : Program). RampsUntold ourEquipment p 4) (board-is before) ourRampsUntold,
+exportedRamps e sound before = (
+  subst⁻¹ (λ (p : Program). RampsTold e p 5) (board-is e before) (anyRampsTold e sound),
+  subst⁻¹ (λ (p : Program). RampsUntold e p 4) (board-is e before) (anyRampsUntold e sound),
 )
 
 pub exportedUnderTexts : ExportedUnderTexts
-exportedUnderTexts old before s zero =
-    let read : readSheet s .check ≡ SettingsCheck.Accepted = ourSheetRefusals .accepts s .1 (exported-refuse .sheet .accepted s .0 zero) in
-    let stored = exported-refuse .sheet .settings-stored s old zero in
+exportedUnderTexts e sound old before s zero =
+    let sheet = exported-refuse e .sheet in
+    let read : readSheet s .check ≡ SettingsCheck.Accepted = ourSheetRefusals .accepts s .1 (sheet .accepted s .0 zero) in
+    let stored = sheet .settings-stored s old zero in
     let ok = subst⁻¹ (λ (st : Settings). settingsAccepted st ≡ true) stored (sheet-written-out s read .accepted) in
-    (ok, exportedDemands before .0 (settingsAfter old s) ok, exportedDemands before .1 (settingsAfter old s) ok)
+    let demands = exportedDemands e sound before in
+    (ok, demands .0 (settingsAfter old s) ok, demands .1 (settingsAfter old s) ok)
 
 pub exportedRules : ExportedRules
 exportedRules = explains-in-numbers
