@@ -71,9 +71,11 @@ use Rattle.claims.specs.RampPairs.{RampsTold, RampsUntold}
 use Rattle.claims.specs.Bits.{UnpacksBits}
 use Rattle.claims.specs.LentRecords.{ReadsRecords}
 use Rattle.claims.specs.Printed.{sampleOn, printedStatus, PrintsByHistory}
-use Rattle.carryover.specs.Carries.{CarryOperation, ourForward, ourBack, AllBytes, CarryRefusedRightly, CarryNumbered, RoundTrips, CarriesRecords, CarriesHistoriesBack}
+use Rattle.carryover.specs.Carries.{CarryOperation, ourForward, ourBack, AllBytes, CarryRefusedRightly, CarryNumbered}
+use Rattle.carryover.specs.Carries.{RoundTrips, CarriesRecords, CarriesHistoriesBack}
 use Rattle.explain.specs.Explained.{historyStatusRule, historyWattsRule}
-use Rattle.explain.specs.Explains.{explainedBy, boardAlone, ShowsRules, LeavesReports, NamesStatusRule, NamesWattsRule, NamesOnRecords, NumbersTell}
+use Rattle.explain.specs.Explains.{explainedBy, boardAlone, ShowsRules, LeavesReports, NamesStatusRule, NamesWattsRule}
+use Rattle.explain.specs.Explains.{NamesOnRecords, NumbersTell}
 use Rattle.explain.specs.declared.StatusRule.{StatusRule}
 use Rattle.explain.specs.declared.WattsRule.{WattsRule}
 use Rattle.replay.specs.Replays.{groups, replayed, replayedInto}
@@ -379,7 +381,8 @@ OurRecovery = (st : Settings) → settingsAccepted st ≡ true → RestoresPower
 -- where neither voltage's region is a cessation. (Counters run there as anywhere: what demand 2's `keeps` and `trips`
 -- count does not depend on the region.)
 abbrev pub AnyRideThroughEnds : Type 0
-AnyRideThroughEnds = (e : Equipment) → Sound e → (st : Settings) → settingsAccepted st ≡ true → CeasesBeyondRideThrough e (historyReport e st)
+AnyRideThroughEnds =
+    (e : Equipment) → Sound e → (st : Settings) → settingsAccepted st ≡ true → CeasesBeyondRideThrough e (historyReport e st)
 
 abbrev pub OurRideThroughEnds : Type 0
 OurRideThroughEnds = (st : Settings) → settingsAccepted st ≡ true → CeasesBeyondRideThrough ourEquipment (historyReport ourEquipment st)
@@ -487,8 +490,10 @@ OurRules = RulesHold ourEquipment × DemandsWithRules ourEquipment
 
 -- So there is no choice in them: rules of histories that say this are these.
 pub record OneRuling : Type 0 where
-  pub status : (e : Equipment) (st : Settings) (rule : History → StatusRule) → NamesStatusRule e st rule → (h : History) → rule h ≡ historyStatusRule e st h
-  pub watts : (e : Equipment) (st : Settings) (rule : History → WattsRule) → NamesWattsRule e st rule → (h : History) → rule h ≡ historyWattsRule e st h
+  pub status : (e : Equipment) (st : Settings) (rule : History → StatusRule) → NamesStatusRule e st rule
+      → (h : History) → rule h ≡ historyStatusRule e st h
+  pub watts : (e : Equipment) (st : Settings) (rule : History → WattsRule) → NamesWattsRule e st rule
+      → (h : History) → rule h ≡ historyWattsRule e st h
 
 -- The values of spec 14.1, one table: specs/Edges.antt.
 abbrev pub EdgeValues : Type 0
@@ -508,12 +513,15 @@ ExportedRefusals = (e : Equipment) → ExportedRefuse e
 -- saltdelta/specs/Exported.antt, is the program that begins with `saltdelta_fresh`, and whose step is the number, the record
 -- and the report of `saltdelta_step`.
 abbrev pub ExportedDemands : Type 0
-ExportedDemands = (e : Equipment) → Sound e → (before : Report) → Demand2 e (exportedBoardBy e before) × Demand3 e (exportedBoardBy e before)
+ExportedDemands =
+    (e : Equipment) → Sound e → (before : Report) → Demand2 e (exportedBoardBy e before) × Demand3 e (exportedBoardBy e before)
 
 -- And how soon two ramp counts in the images of that program come apart: within five samples, and not always within
 -- four. The reports are those that the accepted samples give, which demand 2 ties to those of the calls.
 abbrev pub ExportedRamps : Type 0
-ExportedRamps = (e : Equipment) → Sound e → (before : Report) → RampsTold e (exportedBoardBy e before) 5 × RampsUntold e (exportedBoardBy e before) 4
+ExportedRamps =
+    (e : Equipment) → Sound e → (before : Report)
+    → RampsTold e (exportedBoardBy e before) 5 × RampsUntold e (exportedBoardBy e before) 4
 
 -- Demands 2 and 3 under the settings which `saltdelta_read_sheet` has stored, where it answered 0, whatever stood in
 -- the lent settings. These settings are accepted, which a replay also requires, and the demands hold under them.

@@ -1,5 +1,5 @@
--- The sheet of the pair that needs five samples (spec 13.13), and of the sham's that five do not tell: the default sheet with a wait of 1 and the longest
--- ramp.
+-- The sheet of the pair that needs five samples (spec 13.13), and of the sham's that five do not tell: the default sheet
+-- with a wait of 1 and the longest ramp.
 -- Assumes nothing.
 use mathlib.Core.Path.{_≡_, refl}
 use mathlib.Core.Bool.{true}

@@ -21,14 +21,16 @@ use Rattle.equipment.proofs.Examples.{tabled, tabled-is-ours, tabled-sound}
 use Rattle.equipment.proofs.LongestRamp.{ramps-untold}
 use Rattle.shams.proofs.ShamRules.{waits, turned, best, last, droop-last, mandatory}
 use Rattle.shams.proofs.ShamCarryOvers.{added-first, room-first, what-fits, appends-less, drops-any, swaps-caught}
-use Rattle.shams.proofs.Shams.{quick-accepted, waiting-accepted, early, invented, tripped, repeated, kept, refusing, leaving, as-lent}
+use Rattle.shams.proofs.Shams.{quick-accepted, waiting-accepted, early, invented, tripped, repeated, kept}
+use Rattle.shams.proofs.Shams.{refusing, leaving, as-lent}
 use Rattle.shams.proofs.Shams.{no-ramp, no-ninth, no-recovery, no-side, no-held, no-bits, full-at-once, unheld, withheld}
 use Rattle.shams.proofs.Shams.{stopped, riding-on, low-end, high-end, momentary}
 use Rattle.shams.proofs.ShamStatus.{only-reports, only-trips, only-returns}
 use Rattle.shams.proofs.ShamReadings.{turned-away, let-in}
 use Rattle.shams.proofs.ShamPrintings.{no-more, not-nothing}
 use Rattle.shams.proofs.ShamLines.{no-large, no-unended, no-return}
-use Rattle.shams.proofs.ShamRefusals.{last-code, reading-stored, sample-first, written-short, good-sheet, from-zero, rest-handed}
+use Rattle.shams.proofs.ShamRefusals.{last-code, reading-stored, sample-first, written-short, good-sheet}
+use Rattle.shams.proofs.ShamRefusals.{from-zero, rest-handed}
 
 -- what is computed with the table of voltages holds of our equipment
 said-of-ours : (P : Equipment → Type 0) → P tabled → P ourEquipment
@@ -65,7 +67,15 @@ shamRefusalsCaught = said-of-ours ShamRefusalsCaught
 
 pub shamImagesCaught : ShamImagesCaught ourEquipment
 shamImagesCaught = said-of-ours ShamImagesCaught
-    (record { accepted = (quick-accepted, waiting-accepted); ramp = no-ramp; ninth = no-ninth; recovery = no-recovery; side = no-side; held = no-held; bits = no-bits })
+    (record {
+      accepted = (quick-accepted, waiting-accepted);
+      ramp = no-ramp;
+      ninth = no-ninth;
+      recovery = no-recovery;
+      side = no-side;
+      held = no-held;
+      bits = no-bits;
+    })
 
 pub shamRampsCaught : ShamRampsCaught ourEquipment
 shamRampsCaught = said-of-ours ShamRampsCaught
@@ -87,11 +97,26 @@ shamRideThroughEndsCaught = said-of-ours ShamRideThroughEndsCaught
 
 pub shamDroopsCaught : ShamDroopsCaught ourEquipment
 shamDroopsCaught = said-of-ours ShamDroopsCaught
-    (record { anew = anew; own = own; across = across; limited = limited; rounded-up = rounded-up; ended-early = ended-early; side-kept = side-kept })
+    (record {
+      anew = anew;
+      own = own;
+      across = across;
+      limited = limited;
+      rounded-up = rounded-up;
+      ended-early = ended-early;
+      side-kept = side-kept;
+    })
 
 pub shamReadingsCaught : ShamReadingsCaught ourEquipment
 shamReadingsCaught = said-of-ours ShamReadingsCaught
-    (record { goodSheet = turned-away; unended = let-in; large = no-large; unendedSample = no-unended; carriageReturn = no-return; asLent = as-lent })
+    (record {
+      goodSheet = turned-away;
+      unended = let-in;
+      large = no-large;
+      unendedSample = no-unended;
+      carriageReturn = no-return;
+      asLent = as-lent;
+    })
 
 pub shamPrintingsCaught : ShamPrintingsCaught ourEquipment
 shamPrintingsCaught = said-of-ours ShamPrintingsCaught

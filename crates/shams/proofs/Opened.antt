@@ -20,19 +20,24 @@ unfoldable pub checkOpened : Unit {0}
 unfolding all within rows inRow rising checkFrom linesOf settingsCheck sampleCheck
 checkOpened = tt
 
--- what a sample gives: regions, curves, droop and powers
+-- the powers: curves, nameplate and droop
+unfoldable pub powerOpened : Unit {0}
+unfolding within largest curveFrom curve nameplate sideOf drooped varsOf wattsOf
+powerOpened = tt
+
+-- what a sample gives: broken limits, regions and powers
 unfoldable pub sampleOpened : Unit {0}
-unfolding all any within largest broken inRange voltageRegion frequencyRegion regionOf curveFrom curve nameplate sideOf drooped varsOf wattsOf
+unfolding all any within broken inRange voltageRegion frequencyRegion regionOf powerOpened
 sampleOpened = tt
 
--- what a history gives, but for its report
-unfoldable pub itemsOpened : Unit {0}
-unfolding streak serving climbed sinceCessation historyStatus historyShare historyRecovery historySide wattsHolding historyHeld historyWatts historyVars
-itemsOpened = tt
+-- how long a history has held something
+unfoldable pub countsOpened : Unit {0}
+unfolding streak serving climbed sinceCessation
+countsOpened = tt
 
--- the report of a history
+-- the report of a history, item by item
 unfoldable pub historyOpened : Unit {0}
-unfolding sampleOpened itemsOpened historyReport
+unfolding sampleOpened countsOpened historyStatus historyShare historyRecovery historySide wattsHolding historyHeld historyWatts historyVars historyReport
 historyOpened = tt
 
 -- what a step answers and leaves

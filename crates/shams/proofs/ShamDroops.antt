@@ -13,7 +13,8 @@ use Rattle.claims.specs.Droop.{Droops}
 use Rattle.equipment.specs.ExampleSheets.{exampleSheet}
 use Rattle.equipment.proofs.Examples.{tabled}
 use Rattle.shams.proofs.Opened.{historyOpened}
-use Rattle.shams.specs.ShamDroops.{droopingBy, reportHeldAnew, reportHeldOwn, reportHeldAcross, reportLimited, reportRoundedUp, reportEndedEarly, reportSideKept}
+use Rattle.shams.specs.ShamDroops.{droopingBy, reportHeldAnew, reportHeldOwn, reportHeldAcross, reportLimited}
+use Rattle.shams.specs.ShamDroops.{reportRoundedUp, reportEndedEarly, reportSideKept}
 
 abbrev quick : Settings
 quick = exampleSheet 0

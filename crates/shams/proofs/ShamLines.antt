@@ -8,7 +8,8 @@ use Prim.Native.Nat.{ℕ}
 use native.Mathlib.Omega.{arith}
 use lib.IntN.{ℤ, pos}
 use Rattle.rules.specs.Tests.{all, within}
-use Rattle.rules.specs.Text.{decimal, signedDecimal, digitsBefore, leadingDigits, afterDigits, valueAfter, wellFormed, takeNumber, takeSigned}
+use Rattle.rules.specs.Text.{decimal, signedDecimal, digitsBefore, leadingDigits, afterDigits, valueAfter, wellFormed}
+use Rattle.rules.specs.Text.{takeNumber, takeSigned}
 use Rattle.rules.specs.Forms.{sheetForms, sampleForm, numbersOf}
 use Rattle.rules.specs.Samples.{Slice}
 use Rattle.rules.specs.Records.{fresh, turnedAway}

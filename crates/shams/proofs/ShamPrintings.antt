@@ -9,7 +9,8 @@ use Rattle.rules.specs.Text.{decimal, signedDecimal, digitsBefore, firstLine, h
 use Rattle.rules.specs.Forms.{sheetForms, sampleForm, numbersOf}
 use Rattle.rules.specs.Settings.{rows}
 use Rattle.rules.specs.Sheets.{readFrom, readSheet}
-use Rattle.rules.specs.Transcripts.{spaced, spacedNumbers, refusedLine, linesAfter, linesIn, lineStep, answersFrom, transcriptOf, transcript}
+use Rattle.rules.specs.Transcripts.{spaced, spacedNumbers, refusedLine, linesAfter, linesIn, lineStep, answersFrom}
+use Rattle.rules.specs.Transcripts.{transcriptOf, transcript}
 use Rattle.rules.specs.declared.Refusal.the-variants.{Form}
 use Rattle.claims.specs.Printed.{PrintsByHistory}
 use Rattle.equipment.proofs.Examples.{tabled}

@@ -10,9 +10,12 @@ use borrow.Author.Tests.{lt-leb}
 use Rattle.rules.specs.Tests.{any, within}
 use Rattle.rules.specs.Settings.{settingsAccepted, limitAt}
 use Rattle.rules.specs.Samples.{Slice, Equipment, permitted, frequency, lowest, highest}
-use Rattle.rules.specs.Counters.{Kind, undervoltage, overvoltage, underfrequency, overfrequency, kinds, broken, inRange, limitRules, readyRule}
+use Rattle.rules.specs.Counters.{Kind, undervoltage, overvoltage, underfrequency, overfrequency, kinds, broken, inRange}
+use Rattle.rules.specs.Counters.{limitRules, readyRule}
 use Rattle.rules.specs.Service.{serves, varsOf, wattsOf}
-use Rattle.rules.specs.History.{History, followedBy, streak, complete, serving, climbed, sinceCessation, historyStatus, historyShare, historyRecovery, historySide, wattsHolding, historyHeld, historyWatts, historyVars, historyReport}
+use Rattle.rules.specs.History.{History, followedBy, streak, complete, serving, climbed, sinceCessation, historyStatus}
+use Rattle.rules.specs.History.{historyShare, historyRecovery, historySide, wattsHolding, historyHeld, historyWatts}
+use Rattle.rules.specs.History.{historyVars, historyReport}
 use Rattle.rules.specs.declared.Settings.{Settings}
 use Rattle.claims.specs.TwoHistories.{AgreeBy}
 use Rattle.laws.proofs.Limits.{LevelIn, LimitsIn, limits-in}

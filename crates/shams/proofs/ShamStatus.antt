@@ -20,12 +20,14 @@ use Rattle.rules.specs.declared.Report.{Report}
 use Rattle.rules.specs.declared.Answer.{Answer}
 use Rattle.rules.specs.declared.Stepped.{Stepped}
 use Rattle.claims.specs.Calls.{Call, Run, ruledBy, lastReport, called, calledAll, runOf, callAccepted, acceptedSamples, Under}
-use Rattle.claims.specs.TripAndReturn.{statusBefore, statusNow, Next, Shows, Refuses, Keeps, Trips, Returns, ReturnsContinuous, TripAndReturn}
+use Rattle.claims.specs.TripAndReturn.{statusBefore, statusNow, Next, Shows, Refuses, Keeps, Trips, Returns}
+use Rattle.claims.specs.TripAndReturn.{ReturnsContinuous, TripAndReturn}
 use Rattle.basics.proofs.Bools.{both}
 use Rattle.laws.proofs.FirstCause.{step-number}
 use Rattle.laws.proofs.Trace.{service-is}
 use Rattle.laws.proofs.Trip.{return-law, return-continuous}
-use Rattle.laws.proofs.Demand2.{demand2, accepted-step, refused-step, service-of, statuses-trip, statuses-return, statuses-continuous}
+use Rattle.laws.proofs.Demand2.{demand2, accepted-step, refused-step, service-of, statuses-trip, statuses-return}
+use Rattle.laws.proofs.Demand2.{statuses-continuous}
 use Rattle.equipment.specs.ExampleSheets.{exampleSheet}
 use Rattle.shams.specs.Shams.{reshown, showing, turnedOver, entering, tripped, inventsBits, hidesTrips, saysTripped}
 use Rattle.equipment.proofs.Examples.{tabled, tabled-sound}

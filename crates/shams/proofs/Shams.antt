@@ -31,8 +31,10 @@ use Rattle.laws.proofs.RampPairs.{buffer}
 use Rattle.equipment.specs.ExampleSheets.{exampleSheet}
 use Rattle.shams.specs.Shams.{tripsEarly, inventsCounters, alwaysTripped, repeatsFirst, keepsRecord, turnsAway, takesAsLent}
 use Rattle.shams.specs.ShamRefusals.{refusesLastCode}
-use Rattle.shams.specs.Shams.{turnsAwayLastCode, savedWithoutRamp, savedWithoutNinth, savedWithoutRecovery, savedWithoutSide, savedWithoutHeld, reportWithoutBits}
-use Rattle.shams.specs.Shams.{reportFullAtOnce, reportUnheld, reportWithheld, stopsCounting, reportRidingOn, reportCeasingAt, reportMomentary}
+use Rattle.shams.specs.Shams.{turnsAwayLastCode, savedWithoutRamp, savedWithoutNinth, savedWithoutRecovery}
+use Rattle.shams.specs.Shams.{savedWithoutSide, savedWithoutHeld, reportWithoutBits}
+use Rattle.shams.specs.Shams.{reportFullAtOnce, reportUnheld, reportWithheld, stopsCounting, reportRidingOn}
+use Rattle.shams.specs.Shams.{reportCeasingAt, reportMomentary}
 use Rattle.equipment.proofs.Examples.{tabled}
 use Rattle.shams.proofs.Opened.{checkOpened, historyOpened, imageOpened, stepOpened}
 use Rattle.shams.proofs.ShamReport.{agree-without-bits}

@@ -32,13 +32,17 @@ use Rattle.carryover.specs.Carries.{ourForward, ourBack, CarryRefusedRightly, R
 use Rattle.explain.specs.Explains.{NamesStatusRule, NamesWattsRule}
 use Rattle.equipment.specs.ExampleSheets.{exampleSheet}
 use Rattle.shams.specs.Shams.{tripsEarly, inventsCounters, alwaysTripped, repeatsFirst, keepsRecord, turnsAway}
-use Rattle.shams.specs.Shams.{inventsBits, hidesTrips, saysTripped, savedWithoutRamp, savedWithoutNinth, savedWithoutRecovery, savedWithoutSide, savedWithoutHeld, reportWithoutBits, refusesNoWait}
-use Rattle.shams.specs.Shams.{reportFullAtOnce, reportUnheld, reportWithheld, stopsCounting, reportRidingOn, reportCeasingAt, reportMomentary}
+use Rattle.shams.specs.Shams.{inventsBits, hidesTrips, saysTripped, savedWithoutRamp, savedWithoutNinth}
+use Rattle.shams.specs.Shams.{savedWithoutRecovery, savedWithoutSide, savedWithoutHeld, reportWithoutBits}
+use Rattle.shams.specs.Shams.{refusesNoWait}
+use Rattle.shams.specs.Shams.{reportFullAtOnce, reportUnheld, reportWithheld, stopsCounting, reportRidingOn}
+use Rattle.shams.specs.Shams.{reportCeasingAt, reportMomentary}
 use Rattle.shams.specs.Shams.{takesAsLent, takesUnended, largeNoNumber, stepsUnended, stepsPastReturn}
 use Rattle.shams.specs.Shams.{turnsAwayLastCode, goesOn, saysNothing}
 use Rattle.shams.specs.ShamCarryOvers.{addedFirst, roomFirst, dropsAny, carriesWhatFits, appendsLess, swapsForward, swapsBack}
 use Rattle.shams.specs.ShamRamps.{sixSamples, reportLonger, reportCounted}
-use Rattle.shams.specs.ShamDroops.{reportHeldAnew, reportHeldOwn, reportHeldAcross, reportLimited, reportRoundedUp, reportEndedEarly, reportSideKept}
+use Rattle.shams.specs.ShamDroops.{reportHeldAnew, reportHeldOwn, reportHeldAcross, reportLimited}
+use Rattle.shams.specs.ShamDroops.{reportRoundedUp, reportEndedEarly, reportSideKept}
 use Rattle.shams.specs.ShamRules.{waitsAtTrip, lastLimit, bestRegion, lastAmongEquals, droopLast, statusInMandatory}
 use Rattle.shams.specs.ShamRefusals.{refusesLastCode, storesReading, sampleFirst, writesWhatFits, linesFromZero, handsRest}
 

@@ -12,7 +12,8 @@ use Rattle.rules.specs.Service.{Limited, exports, firstLimits, leftBy}
 use Rattle.rules.specs.History.{History, complete, serving, historyStatus, historyReport}
 use Rattle.rules.specs.declared.Settings.{Settings}
 use Rattle.rules.specs.declared.Region.{Region}
-use Rattle.explain.specs.Explained.{limitNamed, firstWorst, historyStatusRule, lastLimits, wattsRule, historyLimits, historyWattsRule}
+use Rattle.explain.specs.Explained.{limitNamed, firstWorst, historyStatusRule, lastLimits, wattsRule, historyLimits}
+use Rattle.explain.specs.Explained.{historyWattsRule}
 use Rattle.explain.specs.declared.StatusRule.{StatusRule}
 use Rattle.explain.specs.declared.WattsRule.{WattsRule}
 
