@@ -64,13 +64,13 @@ rm -f "$words"
 # ---- statements and crates
 
 # A statement is a line of a table of four cells in docs/PROOF.md; each statement of the two pages has one.
-pages="crates/demands/specs/Demands.antt crates/demands/specs/Caught.antt"
-for statement in $(sed -nE 's/^(abbrev )?pub (record )?([A-Z][A-Za-z]*) :.*/\3/p' $pages); do
+pages="crates/demands/specs/Demands.antt crates/shams/specs/Caught.antt"
+for statement in $(sed -nE 's/^(abbrev )?pub (record )?([A-Z][A-Za-z]*)( \(e : Equipment\))? :.*/\3/p' $pages); do
     grep -qE "^\|[^|]*\`$statement\`[^|]*\|[^|]*\|[^|]*\|[^|]*\|$" docs/PROOF.md
     expect $? "docs/PROOF.md: no line for the statement $statement"
 done
 for statement in $(grep -E '^\|([^|]*\|){4}$' docs/PROOF.md | cut -d '|' -f 2 | grep -oE '`[A-Z][A-Za-z]*`' | tr -d '`'); do
-    grep -qE "pub (record )?$statement :" $pages
+    grep -qE "pub (record )?$statement( \(e : Equipment\))? :" $pages
     expect $? "docs/PROOF.md: no statement $statement"
 done
 

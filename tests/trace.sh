@@ -34,7 +34,7 @@ found() {
     *,*.rs:* | *,*.c:*) defined "${name#*:}" $(find tests/compare tests/library comparison -name "${name%%:*}") ;;
     *,*/*:*) defined "${name#*:}" $(find "crates/${name%%/*}" -name "$(basename "${name%%:*}").antt") ;;
     *,*/*) [ -f "$name" ] || [ -f "crates/$name" ] ;;
-    *) grep -qE "^(abbrev )?pub (record )?$name :" crates/demands/specs/{Demands,Caught}.antt ;;
+    *) grep -qE "^(abbrev )?pub (record )?$name( \(e : Equipment\))? :" crates/demands/specs/Demands.antt crates/shams/specs/Caught.antt ;;
     esac
 }
 

@@ -1,6 +1,6 @@
 -- The statements of specs/Demands.antt hold.
 -- Assumes nothing.
-use mathlib.Core.Path.{_≡_, refl, sym, subst⁻¹, _∙_}
+use mathlib.Core.Path.{_≡_, sym, subst⁻¹, _∙_}
 use mathlib.Core.Bool.{true}
 use native.Mathlib.Omega.{arith}
 use Rattle.rules.specs.Regions.{ourEquipment}
@@ -19,7 +19,7 @@ use Rattle.theorems.proofs.Demand3.{demand3}
 use Rattle.theorems.proofs.Recovery.{restores-power}
 use Rattle.theorems.proofs.RideThroughEnds.{ceases-beyond-ride-through}
 use Rattle.theorems.proofs.Droop.{droops}
-use Rattle.theorems.proofs.RampPairs.{ramps-told-within-five, ramps-untold-within-four}
+use Rattle.theorems.proofs.RampPairs.{ramps-told-within-five}
 use Rattle.theorems.proofs.Bits.{bits-unpacked, reports-items, two-histories-reported}
 use Rattle.theorems.proofs.LentRecords.{reads-records}
 use Rattle.theorems.proofs.Printed.{words-tell}
@@ -37,28 +37,14 @@ use Rattle.formats.proofs.Samples.{sample-reads-back, sample-written-out}
 use Rattle.program.specs.Sessions.{inputOf}
 use Rattle.program.proofs.Sessions.{transcript-law}
 use Rattle.program.proofs.Standing.{standing-law}
-use Rattle.demands.specs.Demands.{ours, OurRefusals, OurSheetRefusals, OurTranscript, OurTripAndReturn, OurTwoHistories, SheetsReadBack, SheetsWrittenOut}
-use Rattle.demands.specs.Demands.{OneSheetReading, DefaultSheetWritten, UnderAcceptedTexts, LinesOfForms, SampleLinesAnswered, OneSampleAnswer}
-use Rattle.demands.specs.Demands.{AcceptedSamplesWritable, SampleLinesReadBack, SampleLinesWrittenOut, EveryCounter, SensingRule, EdgeValues}
-use Rattle.demands.specs.Demands.{AnyTripAndReturn, AnyTwoHistories, OurEquipmentSound}
-use Rattle.demands.specs.Demands.{PowerLaws, OurSessions, SessionsPrinted}
-use Rattle.demands.specs.Demands.{AlikeEquipmentStepsAlike, OurPrinted, OnePrinting, SamplesOnLines, StatusWordsTell, BitsUnpacked}
-use Rattle.demands.specs.Demands.{ReportsAreItems, OurTwoHistoriesReported, OurRecovery, AnyRecovery}
-use Rattle.demands.specs.Demands.{OurRideThroughEnds, AnyRideThroughEnds, OurDroop, AnyDroop}
-use Rattle.demands.specs.Demands.{OurRampsTold, OurRampsUntold, AnyRampsTold, AnyRampsUntold, ExportedRamps}
-use Rattle.demands.specs.Demands.{OurLentRecords, LentValues, RightReportsTrip}
 use Rattle.claims.specs.TripAndReturn.{Demand2}
 use Rattle.claims.specs.TwoHistories.{Demand3}
 use Rattle.claims.specs.RampPairs.{RampsTold, RampsUntold}
-use Rattle.causes.specs.Calls.{Program}
+use Rattle.causes.specs.Calls.{Program, ruledBy}
 use Rattle.replay.proofs.Groups.{by-seven}
 use Rattle.replay.proofs.Demanded.{replays-rightly}
 use Rattle.saltdelta.proofs.Refusals.{exported-refuse}
 use Rattle.saltdelta.proofs.Exported.{board-is, exported-replay}
-use Rattle.demands.specs.Demands.{ExportedRefusals, ExportedDemands, ExportedUnderTexts, OurReplay, ExportedReplay, ReplayGroups}
-use Rattle.demands.specs.Demands.{OurCarryOver, OneCarryOver, OurWayBack, AnyWayBack}
-use Rattle.demands.specs.Demands.{OurRules, OneRuling, AnyRules, ExportedRules}
-use Rattle.demands.specs.Demands.{CodeContracts, CodeMeetsContracts}
 use Rattle.carryover.proofs.Carrying.{refused-rightly, round-trips}
 use Rattle.carryover.proofs.Numbered.{numbered}
 use Rattle.explain.proofs.Alone.{leaves-reports}
@@ -67,6 +53,20 @@ use Rattle.explain.proofs.Naming.{names-status, one-status-rule, names-watts, o
 use Rattle.explain.proofs.OnRecords.{names-on-records}
 use Rattle.explain.proofs.Numbers.{numbers-tell}
 use Rattle.saltdelta.proofs.Explaining.{explains-in-numbers}
+use Rattle.demands.specs.Demands.{OurEquipmentSound, AlikeEquipmentStepsAlike, AnyRefusals, OurRefusals}
+use Rattle.demands.specs.Demands.{OurSheetRefusals, AnyTranscript, OurTranscript, AnySessions, OurSessions}
+use Rattle.demands.specs.Demands.{AnyTripAndReturn, OurTripAndReturn, AnyTwoHistories, OurTwoHistories, SheetsReadBack}
+use Rattle.demands.specs.Demands.{SheetsWrittenOut, OneSheetReading, DefaultSheetWritten, UnderAcceptedTexts}
+use Rattle.demands.specs.Demands.{LinesOfForms, SampleLinesAnswered, OneSampleAnswer, AcceptedSamplesWritable}
+use Rattle.demands.specs.Demands.{SampleLinesReadBack, SampleLinesWrittenOut, AnyPrinted, OurPrinted, OnePrinting}
+use Rattle.demands.specs.Demands.{SessionsPrinted, SamplesOnLines, StatusWordsTell, BitsUnpacked, ReportsAreItems}
+use Rattle.demands.specs.Demands.{AnyTwoHistoriesReported, OurTwoHistoriesReported, AnyLentRecords, OurLentRecords}
+use Rattle.demands.specs.Demands.{LentValues, RightReportsTrip, EveryCounter, SensingRule, PowerLaws, AnyRecovery}
+use Rattle.demands.specs.Demands.{OurRecovery, AnyRideThroughEnds, OurRideThroughEnds, AnyDroop, OurDroop, AnyRampsTold}
+use Rattle.demands.specs.Demands.{OurRampsTold, AnyRampsUntold, OurRampsUntold, OurCarryOver, OneCarryOver, AnyWayBack}
+use Rattle.demands.specs.Demands.{OurWayBack, AnyRules, OurRules, OneRuling, EdgeValues, ExportedRefusals}
+use Rattle.demands.specs.Demands.{ExportedDemands, ExportedRamps, ExportedUnderTexts, ExportedRules, OurReplay}
+use Rattle.demands.specs.Demands.{ExportedReplay, ReplayGroups, CodeContracts, CodeMeetsContracts}
 use Rattle.demands.proofs.Contracts.{contracts-say, code-meets}
 use Rattle.demands.proofs.CarryOver.{carries-records, histories-back}
 use Rattle.demands.proofs.OneCarryOver.{one-carry-over}
@@ -74,26 +74,47 @@ use Rattle.demands.proofs.Edges.{edges-hold}
 use Rattle.demands.proofs.Lent.{lent-read}
 use Rattle.demands.proofs.Printed.{prints-by-history, one-printing, samples-on-lines}
 use Rattle.demands.proofs.Writable.{accepted-writable}
-use Rattle.demands.proofs.Sound.{our-equipment-sound}
-use Rattle.demands.proofs.LongestRamp.{longestRamp, longest-accepted}
+use Rattle.equipment.proofs.Sound.{our-equipment-sound}
+use Rattle.equipment.proofs.LongestRamp.{ramps-untold}
+
+pub ourEquipmentSound : OurEquipmentSound
+ourEquipmentSound = our-equipment-sound
+
+pub alikeEquipmentStepsAlike : AlikeEquipmentStepsAlike
+alikeEquipmentStepsAlike = step-alike
+
+pub anyRefusals : AnyRefusals
+anyRefusals = refuses-rightly
 
 pub ourRefusals : OurRefusals
-ourRefusals = refuses-rightly ourEquipment
+ourRefusals = anyRefusals ourEquipment
 
 pub ourSheetRefusals : OurSheetRefusals
 ourSheetRefusals = sheets-refused-rightly
 
+pub anyTranscript : AnyTranscript
+anyTranscript = transcript-law
+
 pub ourTranscript : OurTranscript
-ourTranscript = transcript-law ourEquipment
+ourTranscript = anyTranscript ourEquipment
+
+pub anySessions : AnySessions
+anySessions = standing-law
 
 pub ourSessions : OurSessions
-ourSessions = standing-law ourEquipment
+ourSessions = anySessions ourEquipment
+
+pub anyTripAndReturn : AnyTripAndReturn
+anyTripAndReturn = demand2
 
 pub ourTripAndReturn : OurTripAndReturn
-ourTripAndReturn = demand2 ourEquipment our-equipment-sound
+ourTripAndReturn = anyTripAndReturn ourEquipment ourEquipmentSound
+
+pub anyTwoHistories : AnyTwoHistories
+anyTwoHistories = demand3
 
 pub ourTwoHistories : OurTwoHistories
-ourTwoHistories = demand3 ourEquipment our-equipment-sound
+ourTwoHistories = anyTwoHistories ourEquipment ourEquipmentSound
 
 pub sheetsReadBack : SheetsReadBack
 sheetsReadBack = sheet-read-back
@@ -108,9 +129,9 @@ pub defaultSheetWritten : DefaultSheetWritten
 defaultSheetWritten = default-written
 
 pub underAcceptedTexts : UnderAcceptedTexts
-underAcceptedTexts s e =
-    let a = sheet-written-out s e .accepted in
-    (ourTripAndReturn (readSheet s .settings) a, ourTwoHistories (readSheet s .settings) a)
+underAcceptedTexts e sound s read =
+    let a = sheet-written-out s read .accepted in
+    (anyTripAndReturn e sound (readSheet s .settings) a, anyTwoHistories e sound (readSheet s .settings) a)
 
 pub linesOfForms : LinesOfForms
 linesOfForms = forms-read
@@ -130,14 +151,17 @@ sampleLinesReadBack = sample-reads-back
 pub sampleLinesWrittenOut : SampleLinesWrittenOut
 sampleLinesWrittenOut = sample-written-out
 
+pub anyPrinted : AnyPrinted
+anyPrinted = prints-by-history
+
 pub ourPrinted : OurPrinted
-ourPrinted = prints-by-history ourEquipment our-equipment-sound
+ourPrinted = anyPrinted ourEquipment ourEquipmentSound
 
 pub onePrinting : OnePrinting
-onePrinting = one-printing ourEquipment our-equipment-sound
+onePrinting = one-printing
 
 pub sessionsPrinted : SessionsPrinted
-sessionsPrinted print right cs sizes done = ourTranscript .done cs sizes done ∙ sym (onePrinting print right (inputOf cs))
+sessionsPrinted e sound print right cs sizes done = anyTranscript e .done cs sizes done ∙ sym (onePrinting e sound print right (inputOf cs))
 
 pub samplesOnLines : SamplesOnLines
 samplesOnLines = samples-on-lines
@@ -151,11 +175,17 @@ bitsUnpacked = bits-unpacked
 pub reportsAreItems : ReportsAreItems
 reportsAreItems = reports-items
 
+pub anyTwoHistoriesReported : AnyTwoHistoriesReported
+anyTwoHistoriesReported e sound st ok = two-histories-reported savedInto e (ruledBy e) st (anyTwoHistories e sound st ok)
+
 pub ourTwoHistoriesReported : OurTwoHistoriesReported
-ourTwoHistoriesReported st ok = two-histories-reported savedInto ourEquipment ours st (ourTwoHistories st ok)
+ourTwoHistoriesReported = anyTwoHistoriesReported ourEquipment ourEquipmentSound
+
+pub anyLentRecords : AnyLentRecords
+anyLentRecords = reads-records
 
 pub ourLentRecords : OurLentRecords
-ourLentRecords = reads-records ourEquipment
+ourLentRecords = anyLentRecords ourEquipment
 
 pub lentValues : LentValues
 lentValues = lent-read
@@ -182,26 +212,35 @@ powerLaws =
       beside-vars = λ st ok v. nameplate-largest (curve (st .var) v) (curve-small 10000 (st .var) v (powers-small (st .var) (var-rises st ok)));
     }
 
+pub anyRecovery : AnyRecovery
+anyRecovery e sound st ok = restores-power e st sound ok
+
 pub ourRecovery : OurRecovery
-ourRecovery st ok = restores-power ourEquipment st our-equipment-sound ok
+ourRecovery = anyRecovery ourEquipment ourEquipmentSound
+
+pub anyRideThroughEnds : AnyRideThroughEnds
+anyRideThroughEnds e sound st ok = ceases-beyond-ride-through e st sound ok
 
 pub ourRideThroughEnds : OurRideThroughEnds
-ourRideThroughEnds st ok = ceases-beyond-ride-through ourEquipment st our-equipment-sound ok
+ourRideThroughEnds = anyRideThroughEnds ourEquipment ourEquipmentSound
+
+pub anyDroop : AnyDroop
+anyDroop = droops
 
 pub ourDroop : OurDroop
-ourDroop = droops ourEquipment
-
-pub ourRampsTold : OurRampsTold
-ourRampsTold = ramps-told-within-five ourEquipment our-equipment-sound
+ourDroop = anyDroop ourEquipment
 
 pub anyRampsTold : AnyRampsTold
 anyRampsTold = ramps-told-within-five
 
+pub ourRampsTold : OurRampsTold
+ourRampsTold = anyRampsTold ourEquipment ourEquipmentSound
+
 pub anyRampsUntold : AnyRampsUntold
-anyRampsUntold e sound = ramps-untold-within-four e sound longestRamp longest-accepted (omega arith) refl
+anyRampsUntold = ramps-untold
 
 pub ourRampsUntold : OurRampsUntold
-ourRampsUntold = anyRampsUntold ourEquipment our-equipment-sound
+ourRampsUntold = anyRampsUntold ourEquipment ourEquipmentSound
 
 pub ourCarryOver : OurCarryOver
 ourCarryOver =
@@ -210,73 +249,55 @@ ourCarryOver =
 pub oneCarryOver : OneCarryOver
 oneCarryOver = one-carry-over
 
-pub ourWayBack : OurWayBack
-ourWayBack = histories-back ourEquipment our-equipment-sound
-
-pub ourRules : OurRules
-ourRules =
-    record {
-      shows = shows-rules ourEquipment;
-      reports = leaves-reports ourEquipment;
-      demands = (subst⁻¹ (Demand2 ourEquipment) (board-alone ourEquipment) ourTripAndReturn, subst⁻¹ (Demand3 ourEquipment) (board-alone ourEquipment) ourTwoHistories);
-      status = names-status ourEquipment;
-      watts = names-watts ourEquipment;
-      on-records = names-on-records ourEquipment;
-      numbers = numbers-tell;
-    }
-
-pub oneRuling : OneRuling
-oneRuling = record { status = one-status-rule ourEquipment; watts = one-watts-rule ourEquipment }
-
-pub edgeValues : EdgeValues
-edgeValues = edges-hold
-
-pub anyTripAndReturn : AnyTripAndReturn
-anyTripAndReturn e sound = demand2 e sound
-
-pub anyRecovery : AnyRecovery
-anyRecovery e sound st ok = restores-power e st sound ok
-
-pub anyRideThroughEnds : AnyRideThroughEnds
-anyRideThroughEnds e sound st ok = ceases-beyond-ride-through e st sound ok
-
-pub anyDroop : AnyDroop
-anyDroop = droops
-
 pub anyWayBack : AnyWayBack
 anyWayBack = histories-back
 
-pub anyTwoHistories : AnyTwoHistories
-anyTwoHistories e sound = demand3 e sound
+pub ourWayBack : OurWayBack
+ourWayBack = anyWayBack ourEquipment ourEquipmentSound
 
 pub anyRules : AnyRules
-anyRules e st ok = (shows-rules e st ok, names-status e st, names-watts e st)
+anyRules e = (
+  record {
+    shows = shows-rules e;
+    reports = leaves-reports e;
+    status = names-status e;
+    watts = names-watts e;
+    on-records = names-on-records e;
+    numbers = numbers-tell;
+  },
+  λ sound. (subst⁻¹ (Demand2 e) (board-alone e) (anyTripAndReturn e sound), subst⁻¹ (Demand3 e) (board-alone e) (anyTwoHistories e sound)),
+)
 
-pub ourEquipmentSound : OurEquipmentSound
-ourEquipmentSound = our-equipment-sound
+pub ourRules : OurRules
+ourRules = (anyRules ourEquipment .0, anyRules ourEquipment .1 ourEquipmentSound)
 
-pub alikeEquipmentStepsAlike : AlikeEquipmentStepsAlike
-alikeEquipmentStepsAlike = step-alike
+pub oneRuling : OneRuling
+oneRuling = record { status = one-status-rule; watts = one-watts-rule }
+
+pub edgeValues : EdgeValues
+edgeValues = edges-hold
 
 pub exportedRefusals : ExportedRefusals
 exportedRefusals = exported-refuse
 
 pub exportedDemands : ExportedDemands
-exportedDemands before =
-    (subst⁻¹ (Demand2 ourEquipment) (board-is before) ourTripAndReturn, subst⁻¹ (Demand3 ourEquipment) (board-is before) ourTwoHistories)
+exportedDemands e sound before =
+    (subst⁻¹ (Demand2 e) (board-is e before) (anyTripAndReturn e sound), subst⁻¹ (Demand3 e) (board-is e before) (anyTwoHistories e sound))
 
 pub exportedRamps : ExportedRamps
-exportedRamps before = (
-  subst⁻¹ (λ (p : Program). RampsTold ourEquipment p 5) (board-is before) ourRampsTold,
-  subst⁻¹ (λ (p : Program). RampsUntold ourEquipment p 4) (board-is before) ourRampsUntold,
+exportedRamps e sound before = (
+  subst⁻¹ (λ (p : Program). RampsTold e p 5) (board-is e before) (anyRampsTold e sound),
+  subst⁻¹ (λ (p : Program). RampsUntold e p 4) (board-is e before) (anyRampsUntold e sound),
 )
 
 pub exportedUnderTexts : ExportedUnderTexts
-exportedUnderTexts old before s zero =
-    let read : readSheet s .check ≡ SettingsCheck.Accepted = ourSheetRefusals .accepts s .1 (exported-refuse .sheet .accepted s .0 zero) in
-    let stored = exported-refuse .sheet .settings-stored s old zero in
+exportedUnderTexts e sound old before s zero =
+    let sheet = exported-refuse e .sheet in
+    let read : readSheet s .check ≡ SettingsCheck.Accepted = ourSheetRefusals .accepts s .1 (sheet .accepted s .0 zero) in
+    let stored = sheet .settings-stored s old zero in
     let ok = subst⁻¹ (λ (st : Settings). settingsAccepted st ≡ true) stored (sheet-written-out s read .accepted) in
-    (ok, exportedDemands before .0 (settingsAfter old s) ok, exportedDemands before .1 (settingsAfter old s) ok)
+    let demands = exportedDemands e sound before in
+    (ok, demands .0 (settingsAfter old s) ok, demands .1 (settingsAfter old s) ok)
 
 pub exportedRules : ExportedRules
 exportedRules = explains-in-numbers

@@ -5,11 +5,10 @@ use mathlib.Core.Bool.{Bool, true, false}
 use mathlib.Core.List.{List, [], _∷_}
 use Prim.Native.Nat.{ℕ}
 use lib.IntN.{ℤ, pos, negℤ}
-use Rattle.rules.specs.Sensing.{voltage}
 use Rattle.rules.specs.Settings.{settingsCheck}
-use Rattle.rules.specs.Samples.{Slice}
+use Rattle.rules.specs.Samples.{Slice, Equipment}
 use Rattle.rules.specs.Counters.{undervoltage, overvoltage, broken}
-use Rattle.rules.specs.Regions.{regionOf, ourEquipment}
+use Rattle.rules.specs.Regions.{regionOf}
 use Rattle.rules.specs.Curves.{curve, nameplate}
 use Rattle.rules.specs.Droop.{sideOf, drooped}
 use Rattle.rules.specs.Defaults.{defaultSettings}
@@ -52,20 +51,20 @@ pub data Edge : Type 0 where
   sideAt : (hertz side : ℕ) → Edge
   droopsTo : (held hertz watts : ℕ) → Edge
 
--- a row holds, by the definitions
-abbrev pub Holds : Edge → Type 0
-Holds (gives code volts) = voltage code ≡ volts
-Holds (rampTaken ramp) = settingsCheck (rampOf ramp) ≡ SettingsCheck.Accepted
-Holds (rampRefused ramp) = settingsCheck (rampOf ramp) ≡ SettingsCheck.Refused Range 11
-Holds (uv1Broken code b) = broken ourEquipment undervoltage 8800 (flat code) ≡ b
-Holds (ov2Broken code b) = broken ourEquipment overvoltage 12000 (flat code) ≡ b
-Holds (isIn code region) = regionOf ourEquipment defaultSettings (flat code) ≡ region
-Holds (isInAt hertz region) = regionOf ourEquipment defaultSettings (nominalAt hertz) ≡ region
-Holds (varsAt volts vars) = curve (defaultSettings .var) volts ≡ vars
-Holds (wattsAt volts watts) = curve (defaultSettings .watt) volts ≡ watts
-Holds (nameplateLeaves vars watts) = nameplate vars ≡ watts
-Holds (sideAt hertz side) = sideOf hertz ≡ side
-Holds (droopsTo held hertz watts) = drooped hertz held ≡ watts
+-- a row holds of an equipment, by the definitions
+abbrev pub Holds : Equipment → Edge → Type 0
+Holds e (gives code volts) = e .sensing code ≡ volts
+Holds e (rampTaken ramp) = settingsCheck (rampOf ramp) ≡ SettingsCheck.Accepted
+Holds e (rampRefused ramp) = settingsCheck (rampOf ramp) ≡ SettingsCheck.Refused Range 11
+Holds e (uv1Broken code b) = broken e undervoltage 8800 (flat code) ≡ b
+Holds e (ov2Broken code b) = broken e overvoltage 12000 (flat code) ≡ b
+Holds e (isIn code region) = regionOf e defaultSettings (flat code) ≡ region
+Holds e (isInAt hertz region) = regionOf e defaultSettings (nominalAt hertz) ≡ region
+Holds e (varsAt volts vars) = curve (defaultSettings .var) volts ≡ vars
+Holds e (wattsAt volts watts) = curve (defaultSettings .watt) volts ≡ watts
+Holds e (nameplateLeaves vars watts) = nameplate vars ≡ watts
+Holds e (sideAt hertz side) = sideOf hertz ≡ side
+Holds e (droopsTo held hertz watts) = drooped hertz held ≡ watts
 
 unfoldable pub edges : List Edge
 edges =
@@ -113,10 +112,10 @@ edges =
     ∷ droopsTo 5000 58464 10000
     ∷ []
 
-abbrev pub AllHold : List Edge → Type 0
-AllHold [] = Unit {0}
-AllHold (r ∷ rs) = Holds r × AllHold rs
+abbrev pub AllHold : Equipment → List Edge → Type 0
+AllHold e [] = Unit {0}
+AllHold e (r ∷ rs) = Holds e r × AllHold e rs
 
 -- the one statement that covers the rows
-unfoldable pub EdgesHold : Type 0
-EdgesHold = AllHold edges
+unfoldable pub EdgesHold : Equipment → Type 0
+EdgesHold e = AllHold e edges

@@ -7,11 +7,11 @@ use mathlib.Core.List.{List, [], _∷_}
 use Prim.Native.Nat.{ℕ}
 use lib.IntN.{ℤ, pos, negℤ}
 use Rattle.rules.specs.Settings.{settingsAccepted}
-use Rattle.rules.specs.Regions.{ourEquipment}
+use Rattle.rules.specs.Samples.{Equipment}
 use Rattle.rules.specs.Records.{readAs}
 use Rattle.rules.specs.declared.Settings.{Settings}
 use Rattle.rules.specs.declared.Board.{Board}
-use Rattle.demands.specs.Shams.{limit, exampleSheet}
+use Rattle.equipment.specs.ExampleSheets.{limit, exampleSheet}
 
 -- uv1 uv2 ov1 ov2 uf1 uf2 of1 of2 and the ninth
 abbrev pub nine : ℕ → ℕ → ℕ → ℕ → ℕ → ℕ → ℕ → ℕ → ℕ → List ℕ
@@ -48,9 +48,9 @@ lentRow lent read = record { lent = lent; read = read }
 abbrev pub stands : Board → LentRow
 stands lent = lentRow lent lent
 
-abbrev pub AllRead : Settings → List LentRow → Type 0
-AllRead st [] = Unit {0}
-AllRead st (r ∷ rs) = (readAs ourEquipment st (r .lent) ≡ r .read) × AllRead st rs
+abbrev pub AllRead : Equipment → Settings → List LentRow → Type 0
+AllRead e st [] = Unit {0}
+AllRead e st (r ∷ rs) = (readAs e st (r .lent) ≡ r .read) × AllRead e st rs
 
 unfoldable pub lentRows : List LentRow
 lentRows =
@@ -169,10 +169,10 @@ otherRows =
     ∷ stands (board 2 (nine 2499 299 699 15 17999 159 44999 249 39) 4999 0 (pos 0))
     ∷ []
 
--- the one statement that covers the rows
-unfoldable pub LentRead : Type 0
-LentRead =
-    AllRead (exampleSheet 0) lentRows
-    × AllRead (exampleSheet 60000) waitRows
+-- the one statement that covers the rows, whatever the equipment
+unfoldable pub LentRead : Equipment → Type 0
+LentRead e =
+    AllRead e (exampleSheet 0) lentRows
+    × AllRead e (exampleSheet 60000) waitRows
     × (settingsAccepted otherSheet ≡ true)
-    × AllRead otherSheet otherRows
+    × AllRead e otherSheet otherRows

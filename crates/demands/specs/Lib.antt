@@ -1,11 +1,4 @@
 pub mod Edges
-pub mod ShamRefusals
-pub mod ShamCarryOvers
-pub mod Shams
 pub mod Lent
 pub mod Contracts
-pub mod ShamRules
-pub mod ShamRamps
-pub mod ShamDroops
 pub mod Demands
-pub mod Caught

@@ -24,7 +24,7 @@ use Rattle.sheet.specs.Outcomes.{Gives}
 use Rattle.sheet.specs.declared.SheetOutcome.{SheetOutcome}
 use Rattle.saltdelta.specs.declared.SheetAnswer.{SheetAnswer}
 use Rattle.causes.specs.Calls.{freshReport}
-use Rattle.saltdelta.specs.Answers.{recordAfter, reportAfter, reportOr, stepNumber, sheetAnswer}
+use Rattle.saltdelta.specs.Answers.{recordAfter, reportAfter, reportOr, stepNumber, sheetAnswer, recordAfterBy, reportAfterBy, stepNumberBy}
 
 -- a cause's number is small, and not 0
 
@@ -36,7 +36,7 @@ number-small cause = omega (arith, number-bounds cause)
 module _ (b : Board) (s : Settings) (x : Slice) (t : Stepped) (e : t ≡ stepOf ourEquipment b s x) where
   answers : (a : Answer) → t .answer ≡ a
       → (t .board ≡ recordAfter b s x) × (reportOr freshReport a ≡ reportAfter freshReport b s x) × (answerNumber a ≡ stepNumber b s x)
-  unfolding recordAfter reportAfter stepNumber
+  unfolding recordAfterBy reportAfterBy stepNumberBy
   answers a told =
       let answered : a ≡ stepOf ourEquipment b s x .answer = sym told ∙ ap (λ (u : Stepped). u .answer) e in
       (ap (λ (u : Stepped). u .board) e, ap (reportOr freshReport) answered, ap answerNumber answered)

@@ -5,7 +5,7 @@ use mathlib.Core.Bool.{true}
 use Prim.Native.Nat.{ℕ, _<_}
 use native.Mathlib.Omega.{arith}
 use Rattle.rules.specs.Settings.{settingsAccepted}
-use Rattle.rules.specs.Samples.{Slice}
+use Rattle.rules.specs.Samples.{Slice, Equipment}
 use Rattle.rules.specs.Regions.{ourEquipment}
 use Rattle.rules.specs.Refusals.{refusalNumber}
 use Rattle.rules.specs.Records.{stepOf}
@@ -24,43 +24,44 @@ use Rattle.causes.specs.Calls.{Program, runOf}
 use Rattle.explain.proofs.Alone.{numbered}
 use Rattle.explain.proofs.Showing.{board-alone, shows-rules}
 use Rattle.saltdelta.proofs.Exported.{board-is}
-use Rattle.saltdelta.specs.Answers.{recordAfter, stepNumber}
-use Rattle.saltdelta.specs.Explained.{inNumbers, explainedOr, explainedFresh, explainedAfter, ExplainsInNumbers}
+use Rattle.saltdelta.specs.Answers.{recordAfter, stepNumber, recordAfterBy, stepNumberBy}
+use Rattle.saltdelta.specs.Explained.{inNumbers, explainedOr, explainedFresh, explainedAfter, ExplainsInNumbers, explainedAfterBy}
 use Rattle.saltdelta.specs.declared.Explained.{Explained}
 
-module _ (b : Board) (s : Settings) (x : Slice) where
+module _ (e : Equipment) (b : Board) (s : Settings) (x : Slice) where
   -- the number is that of the step without rules
-  number-is : explainedNumber (explainedStep ourEquipment b s x .answer) ≡ stepNumber b s x
-  unfolding stepNumber explainedStep
-  number-is = numbered _ _ (stepOf ourEquipment b s x .answer)
+  number-is : explainedNumber (explainedStep e b s x .answer) ≡ stepNumberBy e b s x
+  unfolding stepNumberBy explainedStep
+  number-is = numbered _ _ (stepOf e b s x .answer)
 
   -- what is stored does not depend on what stood there
-  pub explained-whichever : (before : Explained) → stepNumber b s x ≡ 0 → explainedAfter explainedFresh b s x ≡ explainedAfter before b s x
-  unfolding explainedAfter
-  explained-whichever before zero = by (explainedStep ourEquipment b s x .answer) (number-is ∙ zero)
+  pub explained-whichever : (before : Explained) → stepNumberBy e b s x ≡ 0 → explainedAfterBy e explainedFresh b s x ≡ explainedAfterBy e before b s x
+  unfolding explainedAfterBy
+  explained-whichever before zero = by (explainedStep e b s x .answer) (number-is ∙ zero)
     where
       by : (a : ExplainedAnswer) → explainedNumber a ≡ 0 → explainedOr explainedFresh a ≡ explainedOr before a
       by (ExplainedAnswer.Reported r status watts) h = refl
       by (ExplainedAnswer.Refused cause) h = absurd (omega (arith, h, number-bounds cause .0))
 
   -- and a refused call stores nothing
-  pub explained-untouched : (before : Explained) → 0 < stepNumber b s x → explainedAfter before b s x ≡ before
-  unfolding explainedAfter
-  explained-untouched before some = by (explainedStep ourEquipment b s x .answer) (omega (arith, some, number-is))
+  pub explained-untouched : (before : Explained) → 0 < stepNumberBy e b s x → explainedAfterBy e before b s x ≡ before
+  unfolding explainedAfterBy
+  explained-untouched before some = by (explainedStep e b s x .answer) (omega (arith, some, number-is))
     where
       by : (a : ExplainedAnswer) → 0 < explainedNumber a → explainedOr before a ≡ before
       by (ExplainedAnswer.Reported r status watts) k = absurd (omega (arith, k))
       by (ExplainedAnswer.Refused cause) k = refl
 
-  -- ---- the call by value
+-- ---- the call by value
 
+module _ (b : Board) (s : Settings) (x : Slice) where
   module _ (t : ExplainedStep) (e : t ≡ explainedStep ourEquipment b s x) where
     answers : (a : ExplainedAnswer) → t .answer ≡ a
         → (t .board ≡ recordAfter b s x) × (explainedOr explainedFresh a ≡ explainedAfter explainedFresh b s x) × (explainedNumber a ≡ stepNumber b s x)
-    unfolding recordAfter explainedAfter explainedStep
+    unfolding recordAfterBy explainedAfterBy explainedStep
     answers a told =
         let answered : a ≡ explainedStep ourEquipment b s x .answer = sym told ∙ ap (λ (u : ExplainedStep). u .answer) e in
-        (ap (λ (u : ExplainedStep). u .board) e, ap (explainedOr explainedFresh) answered, ap explainedNumber answered ∙ number-is)
+        (ap (λ (u : ExplainedStep). u .board) e, ap (explainedOr explainedFresh) answered, ap explainedNumber answered ∙ number-is ourEquipment b s x)
 
     pub reported : (r : Report) (status : StatusRule) (watts : WattsRule) (k : Explained) → t .answer ≡ ExplainedAnswer.Reported r status watts
         → k ≡ inNumbers r status watts → (t .board ≡ recordAfter b s x) × (k ≡ explainedAfter explainedFresh b s x) × (0 ≡ stepNumber b s x)
@@ -76,14 +77,14 @@ module _ (b : Board) (s : Settings) (x : Slice) where
 
 -- ---- of a history
 
-pub explains-in-numbers : (st : Settings) → settingsAccepted st ≡ true → ExplainsInNumbers st
-unfolding explainedAfter
-explains-in-numbers st ok =
-    let shows = shows-rules ourEquipment st ok in
+pub explains-in-numbers : (e : Equipment) (st : Settings) → settingsAccepted st ≡ true → ExplainsInNumbers e st
+unfolding explainedAfterBy
+explains-in-numbers e st ok =
+    let shows = shows-rules e st ok in
     record {
       fresh = ap (explainedOr explainedFresh) (shows .fresh);
       answers = λ report cs c before n.
-          ap (λ (p : Program). explainedOr before (explainedStep ourEquipment (runOf p cs .board) (c .settings) (c .slice) .answer))
-          (board-is report ∙ sym (board-alone ourEquipment))
+          ap (λ (p : Program). explainedOr before (explainedStep e (runOf p cs .board) (c .settings) (c .slice) .answer))
+          (board-is e report ∙ sym (board-alone e))
           ∙ ap (explainedOr before) (shows .answers cs c n);
     }

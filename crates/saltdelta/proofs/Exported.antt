@@ -3,7 +3,7 @@
 use mathlib.Core.Path.{_≡_, refl, ap, fun-ext}
 use mathlib.Core.List.{List}
 use Prim.Native.Nat.{ℕ}
-use Rattle.rules.specs.Samples.{Slice}
+use Rattle.rules.specs.Samples.{Slice, Equipment}
 use Rattle.rules.specs.Regions.{ourEquipment}
 use Rattle.rules.specs.Refusals.{answerNumber}
 use Rattle.rules.specs.Records.{fresh, stepOf}
@@ -19,8 +19,8 @@ use Rattle.replay.specs.Replays.{replayNumber, replayed, replayedInto}
 use Rattle.replay.specs.Demanded.{Lends, ReplaysRightly}
 use Rattle.replay.proofs.Answering.{given, number-0}
 use Rattle.replay.proofs.Demanded.{replays-rightly, as-rightly}
-use Rattle.saltdelta.specs.Answers.{recordAfter, reportAfter, reportOr, stepNumber, replayAnswer, replayReport}
-use Rattle.saltdelta.specs.Exported.{answerBy, exportedStep, exportedBoard, exportedReplay}
+use Rattle.saltdelta.specs.Answers.{reportOr, replayAnswer, replayReport, recordAfterBy, reportAfterBy, stepNumberBy}
+use Rattle.saltdelta.specs.Exported.{answerBy, exportedStepBy, exportedBoardBy, exportedReplay}
 
 -- ---- the board
 
@@ -36,15 +36,15 @@ named-again before (Answer.Refused Power) = refl
 named-again before (Answer.Refused Sample) = refl
 named-again before (Answer.Refused Buffer) = refl
 
-step-is : (before : Report) (b : Board) (st : Settings) (x : Slice) → exportedStep before b st x ≡ stepOf ourEquipment b st x
-unfolding recordAfter reportAfter stepNumber
-step-is before b st x =
-    ap (λ (a : Answer). record { board = stepOf ourEquipment b st x .board; answer = a }) (named-again before (stepOf ourEquipment b st x .answer))
+step-is : (e : Equipment) (before : Report) (b : Board) (st : Settings) (x : Slice) → exportedStepBy e before b st x ≡ stepOf e b st x
+unfolding recordAfterBy reportAfterBy stepNumberBy
+step-is e before b st x =
+    ap (λ (a : Answer). record { board = stepOf e b st x .board; answer = a }) (named-again before (stepOf e b st x .answer))
 
-pub board-is : (before : Report) → exportedBoard before ≡ ruledBy ourEquipment
-board-is before =
+pub board-is : (e : Equipment) (before : Report) → exportedBoardBy e before ≡ ruledBy e
+board-is e before =
     ap (λ (step : Board → Settings → Slice → Stepped). record { start = fresh; step = step })
-    (fun-ext (λ b. fun-ext (λ st. fun-ext (λ x. step-is before b st x))))
+    (fun-ext (λ b. fun-ext (λ st. fun-ext (λ x. step-is e before b st x))))
 
 -- ---- the replay
 

@@ -7,8 +7,7 @@ use Prim.Native.Nat.{ℕ, _+_, _<_}
 use native.Mathlib.Omega.{arith}
 use lib.Dec.{ltb}
 use lib.ListN as L
-use Rattle.rules.specs.Samples.{Slice}
-use Rattle.rules.specs.Regions.{ourEquipment}
+use Rattle.rules.specs.Samples.{Slice, Equipment}
 use Rattle.rules.specs.Settings.{sheetLines}
 use Rattle.rules.specs.Refusals.{settingsNumber, answerNumber}
 use Rattle.rules.specs.Records.{fresh, stepOf}
@@ -28,25 +27,25 @@ use Rattle.carryover.proofs.Carrying.{refused-rightly}
 use Rattle.replay.specs.Replays.{replayNumber, replayedBy, replayedInto}
 use Rattle.replay.proofs.Answering.{kept, number-first}
 use Rattle.replay.proofs.Demanded.{no-samples, buffer-kept}
-use Rattle.saltdelta.specs.Answers.{recordAfter, reportAfter, reportOr, stepNumber, sheetAnswer, settingsAfter, settingsOr, replayAnswer, replayReport}
+use Rattle.saltdelta.specs.Answers.{reportOr, sheetAnswer, settingsAfter, settingsOr, replayAnswer, replayReport, recordAfterBy, reportAfterBy, stepNumberBy}
 use Rattle.saltdelta.specs.Refuses.{ExportedRefuse}
 use Rattle.saltdelta.proofs.InPlace.{part-in-place}
 use Rattle.saltdelta.proofs.Explaining.{explained-untouched}
 
 -- ---- a step
 
-module _ (b : Board) (s : Settings) (x : Slice) where
-  pub step-cause : stepNumber b s x ≡ first (settingsCauses s ++ sampleCauses x)
-  unfolding stepNumber
-  step-cause = refuses-rightly ourEquipment .step b s x
+module _ (e : Equipment) (b : Board) (s : Settings) (x : Slice) where
+  pub step-cause : stepNumberBy e b s x ≡ first (settingsCauses s ++ sampleCauses x)
+  unfolding stepNumberBy
+  step-cause = refuses-rightly e .step b s x
 
-  pub record-kept : 0 < stepNumber b s x → recordAfter b s x ≡ b
-  unfolding stepNumber recordAfter
-  record-kept h = refuses-rightly ourEquipment .step-keeps b s x h
+  pub record-kept : 0 < stepNumberBy e b s x → recordAfterBy e b s x ≡ b
+  unfolding stepNumberBy recordAfterBy
+  record-kept h = refuses-rightly e .step-keeps b s x h
 
-  pub report-kept : (before : Report) → 0 < stepNumber b s x → reportAfter before b s x ≡ before
-  unfolding stepNumber reportAfter
-  report-kept before h = by (stepOf ourEquipment b s x .answer) h
+  pub report-kept : (before : Report) → 0 < stepNumberBy e b s x → reportAfterBy e before b s x ≡ before
+  unfolding stepNumberBy reportAfterBy
+  report-kept before h = by (stepOf e b s x .answer) h
     where
       by : (a : Answer) → 0 < answerNumber a → reportOr before a ≡ before
       by (Answer.Reported r) k = absurd (omega (arith, k))
@@ -100,10 +99,10 @@ module _ (st : Settings) (samples buffer : List ℕ) where
   unfolding replayAnswer replayedBy
   image-kept h = buffer-kept ourEquipment st samples buffer h
 
-pub exported-refuse : ExportedRefuse
-exported-refuse =
+pub exported-refuse : (e : Equipment) → ExportedRefuse e
+exported-refuse e =
     record {
-      step = record { number = step-cause; record-kept = record-kept; report-kept = report-kept; explained-kept = explained-untouched };
+      step = record { number = step-cause e; record-kept = record-kept e; report-kept = report-kept e; explained-kept = explained-untouched e };
       sheet = record {
         refused = sheet-cause;
         accepted = sheet-accepted;
@@ -111,7 +110,7 @@ exported-refuse =
         settings-stored = settings-stored;
         part = part-in-place;
       };
-      save = record { number = refuses-rightly ourEquipment .save fresh; buffer-kept = refuses-rightly ourEquipment .save-keeps };
+      save = record { number = refuses-rightly e .save fresh; buffer-kept = refuses-rightly e .save-keeps };
       carry = refused-rightly;
       replay = record { number = replay-cause; none = none-accepted; report-kept = last-report-kept; buffer-kept = image-kept };
     }

@@ -16,7 +16,7 @@ use Rattle.rules.specs.declared.Settings.{Settings}
 use Rattle.causes.specs.Calls.{freshReport}
 use Rattle.replay.specs.Replays.{replayNumber, replayedBy, replayed, replayedInto}
 use Rattle.replay.proofs.Answering.{kept, given}
-use Rattle.saltdelta.specs.Answers.{recordAfter, reportAfter, reportOr, stepNumber, sheetAnswer, settingsAfter, replayAnswer, replayReport}
+use Rattle.saltdelta.specs.Answers.{recordAfter, reportAfter, reportOr, stepNumber, sheetAnswer, settingsAfter, replayAnswer, replayReport, reportAfterBy, stepNumberBy}
 use Rattle.saltdelta.specs.Explained.{explainedFresh, explainedAfter}
 use Rattle.saltdelta.specs.declared.StepCall.{StepCall}
 use Rattle.saltdelta.specs.declared.Explained.{Explained}
@@ -47,7 +47,7 @@ module _ {R : Type 0} (b : Board) (s : Settings) (x : Slice) (after : R → R) (
   left-alone : (before : R) (b′ : Board) (r : R) (n : ℕ) → (0 < stepNumber b s x → after before ≡ before) → Says b′ r n → 0 < n → Leaves before b before n
   left-alone before b′ r n kept says refused =
       let numbered : 0 < stepNumber b s x = subst (λ (m : ℕ). 0 < m) (says .2) refused in
-      (sym (record-kept b s x numbered), sym (kept numbered), says .2)
+      (sym (record-kept ourEquipment b s x numbered), sym (kept numbered), says .2)
 
 module _ (b : Board) (s : Settings) (x : Slice) where
   abbrev pub StepSays : StepCall → Type 0
@@ -58,7 +58,7 @@ module _ (b : Board) (s : Settings) (x : Slice) where
 
   -- a report does not depend on the one before
   whichever : (before : Report) → stepNumber b s x ≡ 0 → reportAfter freshReport b s x ≡ reportAfter before b s x
-  unfolding stepNumber reportAfter
+  unfolding stepNumberBy reportAfterBy
   whichever before = by (stepOf ourEquipment b s x .answer)
     where
       by : (a : Answer) → answerNumber a ≡ 0 → reportOr freshReport a ≡ reportOr before a
@@ -69,7 +69,7 @@ module _ (b : Board) (s : Settings) (x : Slice) where
   step-stored before r = stored b s x (λ k. reportAfter k b s x) freshReport before (r .board) (r .report) (r .number) (whichever before)
 
   pub step-kept : (before : Report) (r : StepCall) → StepSays r → 0 < r .number → StepLeaves before b before (r .number)
-  step-kept before r = left-alone b s x (λ k. reportAfter k b s x) freshReport before (r .board) (r .report) (r .number) (report-kept b s x before)
+  step-kept before r = left-alone b s x (λ k. reportAfter k b s x) freshReport before (r .board) (r .report) (r .number) (report-kept ourEquipment b s x before)
 
 -- ---- a step with its rules
 
@@ -82,11 +82,11 @@ module _ (b : Board) (s : Settings) (x : Slice) where
 
   pub explained-stored : (before : Explained) (r : ExplainedCall) → ExplainedSays r → r .number ≡ 0 → ExplainedLeaves before (r .board) (r .explained) 0
   explained-stored before r =
-      stored b s x (λ k. explainedAfter k b s x) explainedFresh before (r .board) (r .explained) (r .number) (explained-whichever b s x before)
+      stored b s x (λ k. explainedAfter k b s x) explainedFresh before (r .board) (r .explained) (r .number) (explained-whichever ourEquipment b s x before)
 
   pub explained-kept : (before : Explained) (r : ExplainedCall) → ExplainedSays r → 0 < r .number → ExplainedLeaves before b before (r .number)
   explained-kept before r =
-      left-alone b s x (λ k. explainedAfter k b s x) explainedFresh before (r .board) (r .explained) (r .number) (explained-untouched b s x before)
+      left-alone b s x (λ k. explainedAfter k b s x) explainedFresh before (r .board) (r .explained) (r .number) (explained-untouched ourEquipment b s x before)
 
 -- ---- a sheet
 

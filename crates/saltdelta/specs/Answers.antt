@@ -4,7 +4,7 @@
 use mathlib.Core.List.{List}
 use Prim.Native.Nat.{ℕ}
 use lib.ListN as L
-use Rattle.rules.specs.Samples.{Slice}
+use Rattle.rules.specs.Samples.{Slice, Equipment}
 use Rattle.rules.specs.Regions.{ourEquipment}
 use Rattle.rules.specs.Refusals.{settingsNumber, lineOf, answerNumber}
 use Rattle.rules.specs.Records.{stepOf}
@@ -18,23 +18,32 @@ use Rattle.replay.specs.Replays.{replayNumber, unlessRefused, replayed}
 use Rattle.saltdelta.specs.declared.SheetAnswer.{SheetAnswer}
 use Rattle.saltdelta.specs.declared.ReplayAnswer.{ReplayAnswer}
 
--- ---- a step
+-- ---- a step: with an equipment, and with ours
 
 -- the record after a step; a refused one is as it was lent
-unfoldable pub recordAfter : Board → Settings → Slice → Board
-recordAfter b s x = stepOf ourEquipment b s x .board
+unfoldable pub recordAfterBy : Equipment → Board → Settings → Slice → Board
+recordAfterBy e b s x = stepOf e b s x .board
+
+abbrev pub recordAfter : Board → Settings → Slice → Board
+recordAfter b s x = recordAfterBy ourEquipment b s x
 
 -- spec 5.6: 0 where the step is not refused
-unfoldable pub stepNumber : Board → Settings → Slice → ℕ
-stepNumber b s x = answerNumber (stepOf ourEquipment b s x .answer)
+unfoldable pub stepNumberBy : Equipment → Board → Settings → Slice → ℕ
+stepNumberBy e b s x = answerNumber (stepOf e b s x .answer)
+
+abbrev pub stepNumber : Board → Settings → Slice → ℕ
+stepNumber b s x = stepNumberBy ourEquipment b s x
 
 -- a report is stored; a refused call gives none and changes nothing (spec 11.4)
 abbrev pub reportOr : Report → Answer → Report
 reportOr before (Answer.Reported report) = report
 reportOr before (Answer.Refused cause) = before
 
-unfoldable pub reportAfter : Report → Board → Settings → Slice → Report
-reportAfter before b s x = reportOr before (stepOf ourEquipment b s x .answer)
+unfoldable pub reportAfterBy : Equipment → Report → Board → Settings → Slice → Report
+reportAfterBy e before b s x = reportOr before (stepOf e b s x .answer)
+
+abbrev pub reportAfter : Report → Board → Settings → Slice → Report
+reportAfter before b s x = reportAfterBy ourEquipment before b s x
 
 -- ---- a sheet
 

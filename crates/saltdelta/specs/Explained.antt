@@ -2,7 +2,7 @@
 -- Assumes nothing.
 use mathlib.Core.Path.{_≡_}
 use mathlib.Core.List.{List, [], _∷_}
-use Rattle.rules.specs.Samples.{Slice}
+use Rattle.rules.specs.Samples.{Slice, Equipment}
 use Rattle.rules.specs.Regions.{ourEquipment}
 use Rattle.rules.specs.Reports.{reportOf}
 use Rattle.rules.specs.History.{History, historyReport}
@@ -16,7 +16,7 @@ use Rattle.reasons.specs.declared.WattsRule.{WattsRule}
 use Rattle.explain.specs.declared.ExplainedAnswer.{ExplainedAnswer}
 use Rattle.causes.specs.Calls.{Call, freshReport, runOf, acceptedSamples}
 use Rattle.claims.specs.TripAndReturn.{Next}
-use Rattle.saltdelta.specs.Exported.{exportedBoard}
+use Rattle.saltdelta.specs.Exported.{exportedBoardBy}
 use Rattle.saltdelta.specs.declared.Explained.{Explained}
 
 -- a report and its rules, as numbers
@@ -33,19 +33,23 @@ explainedOr before (ExplainedAnswer.Refused cause) = before
 abbrev pub explainedFresh : Explained
 explainedFresh = inNumbers freshReport StatusRule.WaitNotFull WattsRule.Status
 
--- after a step
-unfoldable pub explainedAfter : Explained → Board → Settings → Slice → Explained
-explainedAfter before b s x = explainedOr before (explainedStep ourEquipment b s x .answer)
+-- after a step: with an equipment, and with ours
+unfoldable pub explainedAfterBy : Equipment → Explained → Board → Settings → Slice → Explained
+explainedAfterBy e before b s x = explainedOr before (explainedStep e b s x .answer)
+
+abbrev pub explainedAfter : Explained → Board → Settings → Slice → Explained
+explainedAfter before b s x = explainedAfterBy ourEquipment before b s x
 
 -- ---- what a host is told
 
 -- the report and the rules of a history, in numbers
-abbrev pub historyNumbers : Settings → History → Explained
-historyNumbers st h = inNumbers (reportOf (historyReport ourEquipment st h)) (historyStatusRule ourEquipment st h) (historyWattsRule ourEquipment st h)
+abbrev pub historyNumbers : Equipment → Settings → History → Explained
+historyNumbers e st h = inNumbers (reportOf (historyReport e st h)) (historyStatusRule e st h) (historyWattsRule e st h)
 
--- on the record that a list of calls leaves (`exportedBoard`, with `report` lent to them): `saltdelta_step` and `saltdelta_step_explained` both promise `recordAfter`, so that a host may
--- ask at some calls and not at others
-pub record ExplainsInNumbers (st : Settings) : Type 0 where
-  pub fresh : explainedFresh ≡ historyNumbers st []
+-- on the record that a list of calls leaves (`exportedBoardBy`, with `report` lent to them): `saltdelta_step` and
+-- `saltdelta_step_explained` both promise `recordAfter`, so that a host may ask at some calls and not at others
+pub record ExplainsInNumbers (e : Equipment) (st : Settings) : Type 0 where
+  pub fresh : explainedFresh ≡ historyNumbers e st []
   pub answers : (report : Report) (cs : List Call) (c : Call) (before : Explained) → Next st cs c
-      → explainedAfter before (runOf (exportedBoard report) cs .board) (c .settings) (c .slice) ≡ historyNumbers st (c .slice ∷ acceptedSamples cs)
+      → explainedAfterBy e before (runOf (exportedBoardBy e report) cs .board) (c .settings) (c .slice)
+      ≡ historyNumbers e st (c .slice ∷ acceptedSamples cs)

@@ -5,7 +5,8 @@ use mathlib.Core.Bool.{cond}
 use mathlib.Core.List.{List, [], _∷_}
 use Prim.Native.Nat.{ℕ}
 use lib.Dec.{eqb}
-use Rattle.rules.specs.Samples.{Slice}
+use Rattle.rules.specs.Regions.{ourEquipment}
+use Rattle.rules.specs.Samples.{Slice, Equipment}
 use Rattle.rules.specs.Refusals.{refusalNumber}
 use Rattle.rules.specs.Records.{fresh}
 use Rattle.rules.specs.declared.Board.{Board}
@@ -18,7 +19,7 @@ use Rattle.rules.specs.declared.Refusal.the-variants.{Form, Range, Rise, Code, 
 use Rattle.causes.specs.Calls.{Program}
 use Rattle.replay.specs.Replays.{unlessRefused}
 use Rattle.replay.specs.declared.Replayed.{Replayed}
-use Rattle.saltdelta.specs.Answers.{recordAfter, reportAfter, stepNumber, replayAnswer, replayReport}
+use Rattle.saltdelta.specs.Answers.{recordAfterBy, reportAfterBy, stepNumberBy, replayAnswer, replayReport}
 
 -- spec 11.1: all causes
 abbrev pub allCauses : List Refusal
@@ -37,12 +38,16 @@ abbrev pub answerBy : ℕ → Report → Answer
 answerBy n report = unlessRefused n (Answer.Reported report) (Answer.Refused (causeOf n))
 
 -- `saltdelta_step`, with `before` in the lent report: the record after it, and what number and report say
-abbrev pub exportedStep : Report → Board → Settings → Slice → Stepped
-exportedStep before b st x = record { board = recordAfter b st x; answer = answerBy (stepNumber b st x) (reportAfter before b st x) }
+abbrev pub exportedStepBy : Equipment → Report → Board → Settings → Slice → Stepped
+exportedStepBy e before b st x =
+    record { board = recordAfterBy e b st x; answer = answerBy (stepNumberBy e b st x) (reportAfterBy e before b st x) }
 
--- a board that begins with `saltdelta_fresh` and is stepped by it
+-- a board that begins with `saltdelta_fresh` and is stepped by it: with an equipment, and with ours
+abbrev pub exportedBoardBy : Equipment → Report → Program
+exportedBoardBy e before = record { start = fresh; step = exportedStepBy e before }
+
 abbrev pub exportedBoard : Report → Program
-exportedBoard before = record { start = fresh; step = exportedStep before }
+exportedBoard before = exportedBoardBy ourEquipment before
 
 -- `saltdelta_replay`, with `before` in the lent report
 abbrev pub exportedReplay : Report → Settings → List ℕ → List ℕ → Replayed

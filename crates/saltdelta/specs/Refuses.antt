@@ -8,7 +8,7 @@ use Prim.Native.Nat.{ℕ, _+_, _<_}
 use lib.Dec.{ltb}
 use lib.ListN as L
 use lib.ListN.{take, drop}
-use Rattle.rules.specs.Samples.{Slice}
+use Rattle.rules.specs.Samples.{Slice, Equipment}
 use Rattle.rules.specs.Refusals.{savedNumber}
 use Rattle.rules.specs.Settings.{sheetLines}
 use Rattle.rules.specs.Images.{imageLength, saveCheck, savedInto}
@@ -20,16 +20,17 @@ use Rattle.causes.specs.FirstCause.{cause, first, settingsCauses, sampleCauses}
 use Rattle.causes.specs.SheetCauses.{FirstCauseAt, lineCause}
 use Rattle.carryover.specs.Carries.{ourForward, ourBack, CarryRefusedRightly}
 use Rattle.replay.specs.Replays.{replayedInto}
-use Rattle.saltdelta.specs.Answers.{recordAfter, reportAfter, stepNumber, sheetAnswer, settingsAfter, replayAnswer, replayReport}
-use Rattle.saltdelta.specs.Explained.{explainedAfter}
+use Rattle.saltdelta.specs.Answers.{recordAfterBy, reportAfterBy, stepNumberBy, sheetAnswer, settingsAfter, replayAnswer, replayReport}
+use Rattle.saltdelta.specs.Explained.{explainedAfterBy}
 use Rattle.saltdelta.specs.declared.Explained.{Explained}
 
 -- `saltdelta_step` and `saltdelta_step_explained`: settings by 2 and 3, then the sample by 8, 4, 5, 6, 7
-pub record StepRefuses : Type 0 where
-  pub number : (b : Board) (st : Settings) (x : Slice) → stepNumber b st x ≡ first (settingsCauses st ++ sampleCauses x)
-  pub record-kept : (b : Board) (st : Settings) (x : Slice) → 0 < stepNumber b st x → recordAfter b st x ≡ b
-  pub report-kept : (b : Board) (st : Settings) (x : Slice) (before : Report) → 0 < stepNumber b st x → reportAfter before b st x ≡ before
-  pub explained-kept : (b : Board) (st : Settings) (x : Slice) (before : Explained) → 0 < stepNumber b st x → explainedAfter before b st x ≡ before
+pub record StepRefuses (e : Equipment) : Type 0 where
+  pub number : (b : Board) (st : Settings) (x : Slice) → stepNumberBy e b st x ≡ first (settingsCauses st ++ sampleCauses x)
+  pub record-kept : (b : Board) (st : Settings) (x : Slice) → 0 < stepNumberBy e b st x → recordAfterBy e b st x ≡ b
+  pub report-kept : (b : Board) (st : Settings) (x : Slice) (before : Report) → 0 < stepNumberBy e b st x → reportAfterBy e before b st x ≡ before
+  pub explained-kept : (b : Board) (st : Settings) (x : Slice) (before : Explained) → 0 < stepNumberBy e b st x
+      → explainedAfterBy e before b st x ≡ before
 
 -- `saltdelta_read_sheet`: the first line with a cause, by the first of 1, 2, 3
 pub record SheetRefuses : Type 0 where
@@ -54,9 +55,9 @@ pub record ReplayRefuses : Type 0 where
       → replayReport before st samples buffer ≡ before
   pub buffer-kept : (st : Settings) (samples buffer : List ℕ) → 0 < replayAnswer st samples buffer .number → replayedInto st samples buffer ≡ buffer
 
--- all of them; `carry` is of `saltdelta_carry_forward` and `saltdelta_carry_back`: the source by 10 and 11, then the target by 9
-pub record ExportedRefuse : Type 0 where
-  pub step : StepRefuses
+-- all of them, the step with this equipment; `carry` is of `saltdelta_carry_forward` and `saltdelta_carry_back`: the source by 10 and 11, then the target by 9
+pub record ExportedRefuse (e : Equipment) : Type 0 where
+  pub step : StepRefuses e
   pub sheet : SheetRefuses
   pub save : SaveRefuses
   pub carry : CarryRefusedRightly ourForward ourBack

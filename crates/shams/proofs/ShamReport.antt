@@ -10,17 +10,20 @@ use borrow.Author.Tests.{lt-leb}
 use Rattle.rules.specs.Tests.{any, within}
 use Rattle.rules.specs.Settings.{settingsAccepted, limitAt}
 use Rattle.rules.specs.Samples.{Slice, Equipment, permitted, frequency, lowest, highest}
-use Rattle.rules.specs.Counters.{Kind, undervoltage, overvoltage, underfrequency, overfrequency, kinds, broken, inRange, limitRules, readyRule}
-use Rattle.rules.specs.Regions.{ourEquipment}
+use Rattle.rules.specs.Counters.{Kind, undervoltage, overvoltage, underfrequency, overfrequency, kinds, broken, inRange}
+use Rattle.rules.specs.Counters.{limitRules, readyRule}
 use Rattle.rules.specs.Service.{serves, varsOf, wattsOf}
-use Rattle.rules.specs.History.{History, followedBy, streak, complete, serving, climbed, sinceCessation, historyStatus, historyShare, historyRecovery, historySide, wattsHolding, historyHeld, historyWatts, historyVars, historyReport}
+use Rattle.rules.specs.History.{History, followedBy, streak, complete, serving, climbed, sinceCessation, historyStatus}
+use Rattle.rules.specs.History.{historyShare, historyRecovery, historySide, wattsHolding, historyHeld, historyWatts}
+use Rattle.rules.specs.History.{historyVars, historyReport}
 use Rattle.rules.specs.declared.Settings.{Settings}
 use Rattle.claims.specs.TwoHistories.{AgreeBy}
 use Rattle.laws.proofs.Limits.{LevelIn, LimitsIn, limits-in}
 use Rattle.laws.proofs.InRange.{breaks-none}
 use Rattle.laws.proofs.Events.{tripped-side, side-none}
 use Rattle.theorems.proofs.Trace.{same-items}
-use Rattle.demands.specs.Shams.{reportWithoutBits}
+use Rattle.equipment.proofs.Examples.{tabled}
+use Rattle.shams.specs.Shams.{reportWithoutBits}
 
 -- a sample put before all others
 abbrev under : History → Slice → History
@@ -175,13 +178,13 @@ run-under x [] h = refl
 run-under x (y ∷ run) h = run-under x run (y ∷ h)
 
 -- a sample out of range, alone or not there at all: without bits the reports agree for ever
-pub agree-without-bits : (st : Settings) → settingsAccepted st ≡ true → (x : Slice) → inRange ourEquipment st x ≡ false → AgreeBy (reportWithoutBits st) [] (x ∷ [])
+pub agree-without-bits : (st : Settings) → settingsAccepted st ≡ true → (x : Slice) → inRange tabled st x ≡ false → AgreeBy (reportWithoutBits tabled st) [] (x ∷ [])
 unfolding reportWithoutBits historyReport
 agree-without-bits st ok x out run l a =
-    same (followedBy [] run) ∙ ap (reportWithoutBits st) (sym (run-under x run []))
+    same (followedBy [] run) ∙ ap (reportWithoutBits tabled st) (sym (run-under x run []))
   where
-    same : (h : History) → reportWithoutBits st h ≡ reportWithoutBits st (under h x)
+    same : (h : History) → (reportWithoutBits tabled) st h ≡ (reportWithoutBits tabled) st (under h x)
     same h =
-        same-items (sym (status-under ourEquipment st ok x out h)) refl (sym (share-under ourEquipment st ok x out h))
-        (sym (recovery-under ourEquipment st ok x out h)) (sym (side-under ourEquipment st ok x out h)) (sym (held-under ourEquipment st ok x out h))
-        (sym (watts-under ourEquipment st ok x out h)) (sym (vars-under ourEquipment st ok x out h))
+        same-items (sym (status-under tabled st ok x out h)) refl (sym (share-under tabled st ok x out h))
+        (sym (recovery-under tabled st ok x out h)) (sym (side-under tabled st ok x out h)) (sym (held-under tabled st ok x out h))
+        (sym (watts-under tabled st ok x out h)) (sym (vars-under tabled st ok x out h))

@@ -6,10 +6,9 @@ use mathlib.Core.List.{List, [], _∷_, _++_, append-nil}
 use Prim.Native.Nat.{ℕ, _-_}
 use native.Mathlib.Omega.{arith}
 use lib.ListN.{length, drop, take, length-append}
-use Rattle.rules.specs.Tests.{all}
 use Rattle.rules.specs.Text.{feed, decimal, signedDecimal, digitsBefore}
 use Rattle.rules.specs.Forms.{sheetForms}
-use Rattle.rules.specs.Settings.{rows, inRow, rising, checkFrom, linesOf, settingsCheck, settingsAccepted}
+use Rattle.rules.specs.Settings.{linesOf, settingsAccepted}
 use Rattle.rules.specs.Sheets.{SheetReading, refusedAt, readSheet}
 use Rattle.rules.specs.declared.Settings.{Settings}
 use Rattle.rules.specs.declared.Refusal.the-variants.{Range}
@@ -17,7 +16,9 @@ use Rattle.rules.specs.declared.SettingsCheck.{SettingsCheck}
 use Rattle.formats.specs.Marks.{filledIn}
 use Rattle.formats.specs.Sheets.{writtenLines, writtenSheet, Complete, ReadsSheetsBack, AcceptsSheetsOnly}
 use Rattle.formats.proofs.Sheets.{sheet-read-back}
-use Rattle.demands.specs.Shams.{exampleSheet, refusesNoWait, takesUnended}
+use Rattle.equipment.specs.ExampleSheets.{exampleSheet}
+use Rattle.shams.proofs.Opened.{checkOpened}
+use Rattle.shams.specs.Shams.{refusesNoWait, takesUnended}
 
 abbrev pub quick : Settings
 quick = exampleSheet 0
@@ -26,7 +27,7 @@ complete : Complete quick
 complete = record { limits = refl; varPoints = refl; wattPoints = refl }
 
 accepted : settingsAccepted quick ≡ true
-unfolding all rows inRow rising checkFrom linesOf settingsCheck
+unfolding checkOpened
 accepted = refl
 
 abbrev pub reading : SheetReading

@@ -7,11 +7,10 @@ use native.Mathlib.Omega.{arith}
 use lib.Dec.{lit<}
 use lib.IntN.{pos}
 use lib.ListN.{length, getD, replicate}
-use Rattle.rules.specs.Tests.{all, any, within}
+use Rattle.rules.specs.Tests.{any}
 use Rattle.rules.specs.Text.{firstLine, hasFeed}
 use Rattle.rules.specs.Forms.{sheetForms, numbersOf}
-use Rattle.rules.specs.Settings.{rows, inRow, rising, checkFrom, linesOf, settingsCheck}
-use Rattle.rules.specs.Samples.{sampleCheck}
+use Rattle.rules.specs.Settings.{rows}
 use Rattle.rules.specs.Images.{numberBytes, fieldBytes, imageFields, image, saveCheck}
 use Rattle.rules.specs.Records.{fresh, readAs, stepOf}
 use Rattle.rules.specs.Sheets.{SheetReading, readFrom, readSheet}
@@ -23,9 +22,12 @@ use Rattle.formats.specs.Sheets.{writtenSheet}
 use Rattle.causes.specs.FirstCause.{RefusesRightly}
 use Rattle.causes.specs.SheetCauses.{FirstCauseAt, SheetsRefusedRightly}
 use Rattle.laws.proofs.SheetCauses.{sheets-refused-rightly}
-use Rattle.demands.specs.Shams.{exampleSheet, refusesNoWait}
-use Rattle.demands.specs.ShamRefusals.{refusesLastCode, storesReading, sampleFirst, writesWhatFits, linesFromZero, handsRest}
-use Rattle.demands.proofs.ShamReadings.{quick-read}
+use Rattle.equipment.specs.ExampleSheets.{exampleSheet}
+use Rattle.shams.specs.Shams.{refusesNoWait}
+use Rattle.shams.specs.ShamRefusals.{refusesLastCode, storesReading, sampleFirst, writesWhatFits, linesFromZero, handsRest}
+use Rattle.shams.proofs.Opened.{checkOpened}
+use Rattle.equipment.proofs.Examples.{tabled}
+use Rattle.shams.proofs.ShamReadings.{quick-read}
 
 abbrev quick : Settings
 quick = exampleSheet 0
@@ -33,8 +35,8 @@ quick = exampleSheet 0
 -- ---- operations
 
 -- code 4095 has a voltage: ours answers with a report
-pub last-code : ¬ RefusesRightly refusesLastCode
-unfolding refusesLastCode all any within rows inRow rising checkFrom linesOf settingsCheck sampleCheck stepOf
+pub last-code : ¬ RefusesRightly (refusesLastCode tabled)
+unfolding refusesLastCode any stepOf checkOpened
 last-code d =
     let e : _≡_ {A = ℕ} 4 0 = d .step fresh quick (4095 ∷ 1000 ∷ 1000 ∷ 60000 ∷ 1 ∷ 10000 ∷ 10000 ∷ []) in
     omega arith
@@ -43,21 +45,21 @@ last-code d =
 abbrev nameless : Board
 nameless = record { status = 6; counters = replicate 9 0; ramp = 0; watts = 0; vars = pos 0; recovery = 40; side = 0; held = 0 }
 
-pub reading-stored : ¬ RefusesRightly storesReading
-unfolding storesReading all within rows inRow rising checkFrom linesOf settingsCheck sampleCheck stepOf readAs
+pub reading-stored : ¬ RefusesRightly (storesReading tabled)
+unfolding storesReading stepOf readAs checkOpened
 reading-stored d =
     let e : _≡_ {A = ℕ} 0 6 = ap (λ (b : Board). b .status) (d .step-keeps nameless quick [] (lit< tt)) in
     omega arith
 
 -- a wait of 60001 is refused with 2, whatever the slice is
-pub sample-first : ¬ RefusesRightly sampleFirst
-unfolding sampleFirst all within rows inRow rising checkFrom linesOf settingsCheck sampleCheck stepOf
+pub sample-first : ¬ RefusesRightly (sampleFirst tabled)
+unfolding sampleFirst stepOf checkOpened
 sample-first d =
     let e : _≡_ {A = ℕ} 8 2 = d .step fresh (exampleSheet 60001) [] in
     omega arith
 
 -- a buffer of one byte
-pub written-short : ¬ RefusesRightly writesWhatFits
+pub written-short : ¬ RefusesRightly (writesWhatFits tabled)
 unfolding writesWhatFits image imageFields fieldBytes numberBytes saveCheck
 written-short d =
     let e : _≡_ {A = ℕ} 6 0 = ap (λ (bytes : List ℕ). getD bytes 0 0) (d .save-keeps nameless (0 ∷ []) (lit< tt)) in

@@ -11,10 +11,13 @@ use lib.ListN.{length, take, drop, getD, replicate}
 use Rattle.rules.specs.Images.{numberBytes, fieldBytes, imageFields, image, imageLength}
 use Rattle.rules.specs.declared.Board.{Board}
 use Rattle.causes.specs.FirstCause.{cause, first}
-use Rattle.carryover.specs.CarryOver.{oldLength, addedBytes, sameBytes, forwardAnswer, backAnswer, forwardInto, forwardCauses, backCauses}
+use Rattle.carryover.specs.CarryOver.{oldLength, addedBytes, sameBytes, forwardAnswer, backAnswer, forwardInto}
+use Rattle.carryover.specs.CarryOver.{forwardCauses, backCauses}
 use Rattle.carryover.proofs.Carrying.{refused-rightly, round-trips, new-is, old-is}
-use Rattle.carryover.specs.Carries.{ourForward, ourBack, CarryRefusedRightly, newIn, oldIn, RoundTrips, oldFields, oldImage, CarriesRecords}
-use Rattle.demands.specs.ShamCarryOvers.{addedFirst, roomFirst, dropsAny, carriesWhatFits, appendsLess, swapped, swapsForward, swapsBack}
+use Rattle.carryover.specs.Carries.{ourForward, ourBack, CarryRefusedRightly, newIn, oldIn, RoundTrips, oldFields}
+use Rattle.carryover.specs.Carries.{oldImage, CarriesRecords}
+use Rattle.shams.specs.ShamCarryOvers.{addedFirst, roomFirst, dropsAny, carriesWhatFits, appendsLess, swapped}
+use Rattle.shams.specs.ShamCarryOvers.{swapsForward, swapsBack}
 
 abbrev zeros : ℕ → List ℕ
 zeros n = replicate n 0

@@ -8,10 +8,10 @@ use Prim.Native.Nat.{ℕ}
 use native.Mathlib.Omega.{arith}
 use lib.IntN.{ℤ, pos}
 use Rattle.rules.specs.Tests.{all, within}
-use Rattle.rules.specs.Text.{decimal, signedDecimal, digitsBefore, leadingDigits, afterDigits, valueAfter, wellFormed, takeNumber, takeSigned}
+use Rattle.rules.specs.Text.{decimal, signedDecimal, digitsBefore, leadingDigits, afterDigits, valueAfter, wellFormed}
+use Rattle.rules.specs.Text.{takeNumber, takeSigned}
 use Rattle.rules.specs.Forms.{sheetForms, sampleForm, numbersOf}
 use Rattle.rules.specs.Samples.{Slice}
-use Rattle.rules.specs.Regions.{ourEquipment}
 use Rattle.rules.specs.Records.{fresh, turnedAway}
 use Rattle.rules.specs.Transcripts.{Line, ended, unended, lineStep}
 use Rattle.rules.specs.declared.Refusal.the-variants.{Sample}
@@ -19,7 +19,9 @@ use Rattle.formats.specs.Marks.{filledIn, suits, forms, formAt, ReadsForms}
 use Rattle.formats.specs.Samples.{writable, writtenSample, IsSampleLine, AnswersSamples}
 use Rattle.formats.proofs.Samples.{sample-read}
 use Rattle.formats.proofs.SampleLines.{samples-answered}
-use Rattle.demands.specs.Shams.{exampleSheet, largeNoNumber, stepsUnended, withoutReturn, stepsPastReturn}
+use Rattle.equipment.specs.ExampleSheets.{exampleSheet}
+use Rattle.equipment.proofs.Examples.{tabled}
+use Rattle.shams.specs.Shams.{largeNoNumber, stepsUnended, withoutReturn, stepsPastReturn}
 
 -- ---- a clearing time of 100001, outside its row, is a number
 
@@ -47,8 +49,8 @@ unfolding all
 can = refl
 
 -- its line is no line that we refuse
-not-refused : (l : Line) → l ≡ ended (writtenSample sample) → ¬ (lineStep ourEquipment (exampleSheet 0) fresh l ≡ turnedAway fresh Sample)
-not-refused l e h = samples-answered .refuses ourEquipment (exampleSheet 0) fresh l .0 h (record { sample = sample; can = can; text = e })
+not-refused : (l : Line) → l ≡ ended (writtenSample sample) → ¬ (lineStep tabled (exampleSheet 0) fresh l ≡ turnedAway fresh Sample)
+not-refused l e h = samples-answered .refuses tabled (exampleSheet 0) fresh l .0 h (record { sample = sample; can = can; text = e })
 
 -- unended, it is no sample line
 is-ended : (s : List ℕ) → ¬ IsSampleLine (unended s)
@@ -57,7 +59,7 @@ is-ended s l = let e = l .text in let z : _≡_ {A = ℕ} 0 1 = cc in omega arit
 pub no-unended : ¬ AnswersSamples stepsUnended
 unfolding stepsUnended
 no-unended a = not-refused (ended (writtenSample sample)) refl
-    (a .refuses ourEquipment (exampleSheet 0) fresh (unended (writtenSample sample)) .1 (is-ended (writtenSample sample)))
+    (a .refuses tabled (exampleSheet 0) fresh (unended (writtenSample sample)) .1 (is-ended (writtenSample sample)))
 
 -- with a carriage return, it is none either
 abbrev returned : List ℕ
@@ -78,4 +80,4 @@ dropped = refl
 
 pub no-return : ¬ AnswersSamples stepsPastReturn
 unfolding stepsPastReturn
-no-return a = not-refused (ended (withoutReturn returned)) (ap ended dropped) (a .refuses ourEquipment (exampleSheet 0) fresh (ended returned) .1 no-sample)
+no-return a = not-refused (ended (withoutReturn returned)) (ap ended dropped) (a .refuses tabled (exampleSheet 0) fresh (ended returned) .1 no-sample)

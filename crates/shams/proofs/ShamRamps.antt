@@ -7,23 +7,16 @@ use mathlib.Core.List.{List, [], _∷_}
 use Prim.Native.Nat.{ℕ, _≤_, zero-le}
 use native.Mathlib.Omega.{arith}
 use lib.ListN.{length, take}
-use Rattle.rules.specs.Tests.{all, any, within}
-use Rattle.rules.specs.Sensing.{largest, voltage}
-use Rattle.rules.specs.Settings.{rows, inRow, rising, checkFrom, linesOf, settingsCheck, settingsAccepted}
-use Rattle.rules.specs.Samples.{Slice, sampleCheck}
-use Rattle.rules.specs.Counters.{broken, inRange}
-use Rattle.rules.specs.Regions.{voltageRegion, frequencyRegion, regionOf, ourEquipment}
-use Rattle.rules.specs.Curves.{curveFrom, curve, nameplate}
-use Rattle.rules.specs.Service.{varsOf, wattsOf}
+use Rattle.rules.specs.Settings.{settingsAccepted}
+use Rattle.rules.specs.Samples.{Slice}
 use Rattle.rules.specs.Reports.{Items, reportOf}
 use Rattle.rules.specs.Images.{image, imageLength, savedInto}
 use Rattle.rules.specs.Records.{fresh, settled}
-use Rattle.rules.specs.Droop.{sideOf}
-use Rattle.rules.specs.History.{History, streak, serving, climbed, sinceCessation, historyRecovery, historySide, historyHeld}
+use Rattle.rules.specs.History.{History}
 use Rattle.rules.specs.declared.Settings.{Settings}
 use Rattle.rules.specs.declared.Board.{Board}
 use Rattle.rules.specs.declared.Report.{Report}
-use Rattle.causes.specs.Calls.{Call, Run, calledAll, runOf, acceptedSamples, Under}
+use Rattle.causes.specs.Calls.{Call, ruledBy, Run, calledAll, runOf, acceptedSamples, Under}
 use Rattle.claims.specs.TripAndReturn.{recordOf}
 use Rattle.claims.specs.TwoHistories.{AgreeWithin, imageAfter}
 use Rattle.claims.specs.RampPairs.{RampAlone, RampsToldBy, RampsUntoldBy}
@@ -36,31 +29,31 @@ use Rattle.laws.proofs.Shares.{SharesAgree}
 use Rattle.theorems.proofs.RampBytes.{counts-differ}
 use Rattle.theorems.proofs.RampAlone.{withRamp, image-alone, histories-agree}
 use Rattle.theorems.proofs.RampPairs.{buffer, room, untold-not-told}
-use Rattle.demands.specs.ShamRamps.{longer, sixSamples, reportLonger, reportCounted}
-use Rattle.demands.specs.Demands.{ours}
-use Rattle.demands.proofs.Sound.{our-equipment-sound}
-use Rattle.demands.proofs.LongestRamp.{longestRamp, longest-accepted}
+use Rattle.shams.specs.ShamRamps.{longer, sixSamples, reportLonger, reportCounted}
+use Rattle.equipment.proofs.Examples.{tabled, tabled-sound}
+use Rattle.shams.proofs.Opened.{checkOpened, historyOpened}
+use Rattle.equipment.proofs.LongestRamp.{longestRamp, longest-accepted}
 
 -- ---- ramps a step longer: the board is that of its histories
 
 module _ (st : Settings) (ok : settingsAccepted st ≡ true) where
-  longer-run : (cs : List Call) → Under st cs → runOf sixSamples cs ≡ at ourEquipment (longer st) (acceptedSamples cs)
+  longer-run : (cs : List Call) → Under st cs → runOf (sixSamples tabled) cs ≡ at tabled (longer st) (acceptedSamples cs)
   unfolding recordOf
   longer-run cs u =
-      ap (λ (r : Report). calledAll sixSamples (record { board = fresh; report = r }) cs) (sym (fresh-by ourEquipment (longer st) (limits-in st ok)))
-      ∙ calls-by ourEquipment (longer st) sixSamples st
+      ap (λ (r : Report). calledAll (sixSamples tabled) (record { board = fresh; report = r }) cs) (sym (fresh-by tabled (longer st) (limits-in st ok)))
+      ∙ calls-by tabled (longer st) (sixSamples tabled) st
       (λ accepted b x a. rw (accepted, a))
-      (λ b c q. let r = refused-step ourEquipment b (c .settings) (c .slice) q in (r .0, rw q (r .1)))
+      (λ b c q. let r = refused-step tabled b (c .settings) (c .slice) q in (r .0, rw q (r .1)))
       cs [] u
 
-  pub longer-shows : (cs : List Call) → Under st cs → runOf sixSamples cs .report ≡ reportOf (reportLonger st (acceptedSamples cs))
+  pub longer-shows : (cs : List Call) → Under st cs → runOf (sixSamples tabled) cs .report ≡ reportOf (reportLonger tabled st (acceptedSamples cs))
   longer-shows cs u = ap (λ (r : Run). r .report) (longer-run cs u)
 
   longer-saved : (cs : List Call) → Under st cs → (a : List ℕ) → imageLength ≤ length a
-      → imageAfter savedInto sixSamples cs a ≡ image (recordOf ourEquipment (longer st) (acceptedSamples cs))
+      → imageAfter savedInto (sixSamples tabled) cs a ≡ image (recordOf tabled (longer st) (acceptedSamples cs))
   longer-saved cs u a enough =
       ap (λ (r : Run). take imageLength (savedInto (r .board) a)) (longer-run cs u)
-      ∙ saved-image (recordOf ourEquipment (longer st) (acceptedSamples cs)) (nine-counters ourEquipment (longer st) (acceptedSamples cs)) a enough
+      ∙ saved-image (recordOf tabled (longer st) (acceptedSamples cs)) (nine-counters tabled (longer st) (acceptedSamples cs)) a enough
 
 -- ---- a ramp of 60001 steps: a return at nominal, and one such sample more
 
@@ -71,40 +64,40 @@ abbrev call : Call
 call = record { settings = longestRamp; slice = sample }
 
 abbrev given : History → Board
-given h = recordOf ourEquipment (longer longestRamp) h
+given h = recordOf tabled (longer longestRamp) h
 
 pair-alike : given (sample ∷ sample ∷ []) ≡ withRamp 1 (given (sample ∷ []))
-unfolding all any within largest voltage broken inRange voltageRegion frequencyRegion regionOf curveFrom curve nameplate varsOf wattsOf settled recordOf streak serving climbed sinceCessation historyRecovery sideOf historySide historyHeld
+unfolding settled recordOf historyOpened
 pair-alike = refl
 
 first-ramp : given (sample ∷ []) .ramp ≡ 0
-unfolding all any within largest voltage broken inRange voltageRegion frequencyRegion regionOf settled recordOf streak serving climbed
+unfolding settled recordOf historyOpened
 first-ramp = refl
 
 pair-alone : RampAlone (image (given (sample ∷ []))) (image (given (sample ∷ sample ∷ [])))
 pair-alone =
     subst (λ (b : Board). RampAlone (image (given (sample ∷ []))) (image b)) (sym pair-alike)
-    (image-alone (given (sample ∷ [])) 1 (nine-counters ourEquipment (longer longestRamp) (sample ∷ [])) (omega (arith, first-ramp)) (omega arith)
+    (image-alone (given (sample ∷ [])) 1 (nine-counters tabled (longer longestRamp) (sample ∷ [])) (omega (arith, first-ramp)) (omega arith)
     (λ same. absurd (omega (arith, first-ramp))))
 
 -- for five steps more both shares are 0
-pair-agrees : AgreeWithin 5 (reportLonger longestRamp) (sample ∷ []) (sample ∷ sample ∷ [])
+pair-agrees : AgreeWithin 5 (reportLonger tabled longestRamp) (sample ∷ []) (sample ∷ sample ∷ [])
 pair-agrees =
     let second = ap (λ (b : Board). b .ramp) pair-alike in
-    histories-agree ourEquipment (longer longestRamp) (omega arith) 5 (sample ∷ []) (sample ∷ sample ∷ [])
+    histories-agree tabled (longer longestRamp) (omega arith) 5 (sample ∷ []) (sample ∷ sample ∷ [])
     (pair-alike ∙ ap (λ (r : ℕ). withRamp r (given (sample ∷ []))) (sym second))
     (subst₂ (SharesAgree 5 60001) (sym first-ramp) (sym second) (λ k l. omega arith))
 
 -- both samples are accepted
 samples-one : acceptedSamples (call ∷ []) ≡ sample ∷ []
-unfolding all rows inRow rising checkFrom linesOf settingsCheck sampleCheck within
+unfolding checkOpened
 samples-one = refl
 
 samples-other : acceptedSamples (call ∷ call ∷ []) ≡ sample ∷ sample ∷ []
-unfolding all rows inRow rising checkFrom linesOf settingsCheck sampleCheck within
+unfolding checkOpened
 samples-other = refl
 
-longer-untold : RampsUntoldBy savedInto reportLonger sixSamples 5
+longer-untold : RampsUntoldBy savedInto (reportLonger tabled) (sixSamples tabled) 5
 longer-untold =
     let one : Under longestRamp (call ∷ []) = (inl refl, tt) in
     let other : Under longestRamp (call ∷ call ∷ []) = (inl refl, (inl refl, tt)) in
@@ -118,19 +111,19 @@ longer-untold =
           (sym (longer-saved longestRamp longest-accepted (call ∷ []) one a ra ∙ ap (λ (h : History). image (given h)) samples-one))
           (sym (longer-saved longestRamp longest-accepted (call ∷ call ∷ []) other b rb ∙ ap (λ (h : History). image (given h)) samples-other))
           pair-alone;
-      agree = subst₂ (AgreeWithin 5 (reportLonger longestRamp)) (sym samples-one) (sym samples-other) pair-agrees;
+      agree = subst₂ (AgreeWithin 5 (reportLonger tabled longestRamp)) (sym samples-one) (sym samples-other) pair-agrees;
     }
 
-pub longer-not-told : ¬ RampsToldBy savedInto reportLonger sixSamples 5
-longer-not-told = untold-not-told savedInto reportLonger sixSamples 5 longer-untold
+pub longer-not-told : ¬ RampsToldBy savedInto (reportLonger tabled) (sixSamples tabled) 5
+longer-not-told = untold-not-told savedInto (reportLonger tabled) (sixSamples tabled) 5 longer-untold
 
 -- ---- the ramp count reported
 
-pub counted-at-once : ¬ RampsUntoldBy savedInto reportCounted ours 0
+pub counted-at-once : ¬ RampsUntoldBy savedInto (reportCounted tabled) (ruledBy tabled) 0
 counted-at-once u =
     let st = u .sheet in
     let h = acceptedSamples (u .one) in
     let g = acceptedSamples (u .other) in
-    let saved = saved-is ourEquipment our-equipment-sound st (u .accepted) in
+    let saved = saved-is tabled tabled-sound st (u .accepted) in
     let alone = subst₂ RampAlone (saved (u .one) (u .under .0) buffer room) (saved (u .other) (u .under .1) buffer room) (u .alone buffer buffer room room) in
-    counts-differ ourEquipment st h g alone (ap (λ (r : Items). r .share) (u .agree [] zero-le tt))
+    counts-differ tabled st h g alone (ap (λ (r : Items). r .share) (u .agree [] zero-le tt))

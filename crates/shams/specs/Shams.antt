@@ -10,14 +10,13 @@ use mathlib.Core.List.{List, [], _∷_, _++_, map}
 use mathlib.Core.Option.{Option, none, some}
 use Prim.Native.Nat.{ℕ, suc, _-_, _*_, _/_, min, max}
 use lib.Dec.{eqb, leb}
-use lib.IntN.{ℤ, pos, natAbs, negℤ}
+use lib.IntN.{ℤ, pos, natAbs}
 use lib.ListN.{replicate, set, take, drop}
 use Rattle.rules.specs.Tests.{all, any, within}
 use Rattle.rules.specs.Text.{feed, afterLine}
 use Rattle.rules.specs.Forms.{numbersOf}
 use Rattle.rules.specs.Sheets.{SheetReading, refusedAt, readSheet}
-use Rattle.rules.specs.Samples.{Slice, frequency, permitted}
-use Rattle.rules.specs.Regions.{ourEquipment}
+use Rattle.rules.specs.Samples.{Slice, Equipment, frequency, permitted}
 use Rattle.rules.specs.Reports.{Items, reportOf}
 use Rattle.rules.specs.History.{History, historyReport}
 use Rattle.rules.specs.Images.{savedInto}
@@ -27,8 +26,6 @@ use Rattle.rules.specs.Refusals.{answerNumber}
 use Rattle.rules.specs.Records.{fresh, settled, ruled, shown, stepOf}
 use Rattle.rules.specs.Defaults.{defaultSettings}
 use Rattle.rules.specs.Transcripts.{Line, ended, unended, linesIn, lineStep, answersFrom, transcript}
-use Rattle.rules.specs.declared.Limit.{Limit}
-use Rattle.rules.specs.declared.Point.{Point}
 use Rattle.rules.specs.declared.Settings.{Settings}
 use Rattle.rules.specs.declared.Board.{Board}
 use Rattle.rules.specs.declared.Refusal.the-variants.{Range, Code}
@@ -39,62 +36,30 @@ use Rattle.rules.specs.declared.Stepped.{Stepped}
 use Rattle.formats.specs.Samples.{Answering}
 use Rattle.causes.specs.Calls.{Program}
 use Rattle.claims.specs.Printed.{readPart}
-use Rattle.demands.specs.ShamRefusals.{refusesLastCode}
-
--- the default sheet (spec 3.3) with `(enter (wait W R))`
-abbrev pub limit : ℕ → ℕ → Limit
-limit level clearing = record { level = level; clearing = clearing }
-
-abbrev point : ℕ → ℤ → Point
-point v p = record { volts = v; power = p }
-
-abbrev pub enterSheet : ℕ → ℕ → Settings
-enterSheet wait ramp =
-    record {
-      trip =
-          limit 8800 2100
-          ∷ limit 5000 200
-          ∷ limit 11000 1300
-          ∷ limit 12000 16
-          ∷ limit 58500 30000
-          ∷ limit 56500 16
-          ∷ limit 61200 30000
-          ∷ limit 62000 16
-          ∷ [];
-      volts = record { low = 9170; high = 10500 };
-      hertz = record { low = 59500; high = 60100 };
-      wait = wait;
-      ramp = ramp;
-      var = point 9200 (pos 4400) ∷ point 9800 (pos 0) ∷ point 10200 (pos 0) ∷ point 10800 (negℤ (pos 4400)) ∷ [];
-      watt = point 10600 (pos 10000) ∷ point 11000 (pos 2000) ∷ [];
-    }
-
--- with a ramp of 100 steps, as spec 10.11 has it
-abbrev pub exampleSheet : ℕ → Settings
-exampleSheet wait = enterSheet wait 100
+use Rattle.shams.specs.ShamRefusals.{refusesLastCode}
 
 -- ---- sham boards
 
 -- our step, which the shams bend
-abbrev honest : Board → Settings → Slice → Stepped
-honest b st x = stepOf ourEquipment b st x
+abbrev honest : Equipment → Board → Settings → Slice → Stepped
+honest e b st x = stepOf e b st x
 
 -- a record and the report that it shows
-abbrev reporting : Settings → Board → Stepped
-reporting st b = record { board = b; answer = Answer.Reported (reportOf (shown ourEquipment st b)) }
+abbrev reporting : Equipment → Settings → Board → Stepped
+reporting e st b = record { board = b; answer = Answer.Reported (reportOf (shown e st b)) }
 
 -- the record of a step, tripped instead
-abbrev trippedInstead : Settings → Slice → Board → Stepped
-trippedInstead st x b = reporting st (settled ourEquipment st x (b .counters) false 0 recoveryTop 0)
+abbrev trippedInstead : Equipment → Settings → Slice → Board → Stepped
+trippedInstead e st x b = reporting e st (settled e st x (b .counters) false 0 recoveryTop 0)
 
 -- trips before a clearing time is over: in service, as soon as a limit's counter is not 0
-unfoldable pub tripsEarly : Program
-tripsEarly =
+unfoldable pub tripsEarly : Equipment → Program
+tripsEarly e =
     record {
       start = fresh;
       step = λ b st x.
-          let t = honest b st x in
-          cond (inService (t .board .status) && any (map (λ n. leb 1 n) (take 8 (t .board .counters)))) (trippedInstead st x (t .board)) t;
+          let t = honest e b st x in
+          cond (inService (t .board .status) && any (map (λ n. leb 1 n) (take 8 (t .board .counters)))) (trippedInstead e st x (t .board)) t;
     }
 
 -- a record with other counters
@@ -103,21 +68,21 @@ withCounters ns b =
     record { status = b .status; counters = ns; ramp = b .ramp; watts = b .watts; vars = b .vars; recovery = b .recovery; side = b .side; held = b .held }
 
 -- invents its counters: its reports are right, and its record holds every counter twice over
-unfoldable pub inventsCounters : Program
-inventsCounters =
+unfoldable pub inventsCounters : Equipment → Program
+inventsCounters e =
     record {
       start = fresh;
       step = λ b st x.
-          let t = honest (withCounters (map (λ n. n / 2) (b .counters)) b) st x in
+          let t = honest e (withCounters (map (λ n. n / 2) (b .counters)) b) st x in
           record { board = withCounters (map (λ n. 2 * n) (t .board .counters)) (t .board); answer = t .answer };
     }
 
 -- is tripped for ever
-unfoldable pub alwaysTripped : Program
-alwaysTripped =
+unfoldable pub alwaysTripped : Equipment → Program
+alwaysTripped e =
     record {
       start = fresh;
-      step = λ b st x. let t = honest b st x in cond (inService (t .board .status)) (trippedInstead st x (t .board)) t;
+      step = λ b st x. let t = honest e b st x in cond (inService (t .board .status)) (trippedInstead e st x (t .board)) t;
     }
 
 -- nothing has come yet, as far as the record tells: after a first sample that leaves it fresh, the next one is worked out too
@@ -125,35 +90,35 @@ abbrev untouched : Board → Bool
 untouched b = eqb (b .status) 0 && all (map (λ n. eqb n 0) (b .counters))
 
 -- works out a single sample and says the same from then on
-unfoldable pub repeatsFirst : Program
-repeatsFirst = record { start = fresh; step = λ b st x. cond (untouched b) (honest b st x) (reporting st b) }
+unfoldable pub repeatsFirst : Equipment → Program
+repeatsFirst e = record { start = fresh; step = λ b st x. cond (untouched b) (honest e b st x) (reporting e st b) }
 
 -- never writes to its record
-unfoldable pub keepsRecord : Program
-keepsRecord = record { start = fresh; step = λ b st x. record { board = b; answer = honest b st x .answer } }
+unfoldable pub keepsRecord : Equipment → Program
+keepsRecord e = record { start = fresh; step = λ b st x. record { board = b; answer = honest e b st x .answer } }
 
 -- turns away good samples: it keeps its record as it should, and refuses with 4 every sample that leaves the status as it was
-unfoldable pub turnsAway : Program
-turnsAway =
+unfoldable pub turnsAway : Equipment → Program
+turnsAway e =
     record {
       start = fresh;
       step = λ b st x.
-          let t = honest b st x in
+          let t = honest e b st x in
           record { board = t .board; answer = cond (eqb (b .status) (t .board .status)) (Answer.Refused Code) (t .answer) };
     }
 
 -- turns away good samples, those with a code of 4095, with 4, and leaves the record: the step of `refusesLastCode`
-unfoldable pub turnsAwayLastCode : Program
-turnsAwayLastCode = record { start = fresh; step = refusesLastCode .step }
+unfoldable pub turnsAwayLastCode : Equipment → Program
+turnsAwayLastCode e = record { start = fresh; step = refusesLastCode e .step }
 
 -- takes a lent record as it stands, not as it is read (spec 5.4)
-unfoldable pub takesAsLent : Program
-takesAsLent =
+unfoldable pub takesAsLent : Equipment → Program
+takesAsLent e =
     record {
       start = fresh;
       step = λ b st x.
-          let t = honest b st x in
-          cond (eqb (answerNumber (t .answer)) 0) (reporting st (ruled ourEquipment st x b)) t;
+          let t = honest e b st x in
+          cond (eqb (answerNumber (t .answer)) 0) (reporting e st (ruled e st x b)) t;
     }
 
 -- ---- sham boards that keep the record and refuse as they should, and show other reports
@@ -164,11 +129,11 @@ reshown f (Answer.Refused cause) = Answer.Refused cause
 reshown f (Answer.Reported r) = Answer.Reported (f r)
 
 -- by what is shown, from: in service before the step, the right report
-abbrev pub showing : (Bool → Report → Report) → Program
-showing f =
+abbrev pub showing : Equipment → (Bool → Report → Report) → Program
+showing e f =
     record {
       start = fresh;
-      step = λ b st x. let t = honest b st x in record { board = t .board; answer = reshown (f (inService (b .status))) (t .answer) };
+      step = λ b st x. let t = honest e b st x in record { board = t .board; answer = reshown (f (inService (b .status))) (t .answer) };
     }
 
 -- every bit turned over
@@ -189,16 +154,16 @@ abbrev pub tripped : Bool → Report → Report
 tripped was r = withStatus 0 r
 
 -- invents its bits
-unfoldable pub inventsBits : Program
-inventsBits = showing turnedOver
+unfoldable pub inventsBits : Equipment → Program
+inventsBits e = showing e turnedOver
 
 -- hides its trips
-unfoldable pub hidesTrips : Program
-hidesTrips = showing entering
+unfoldable pub hidesTrips : Equipment → Program
+hidesTrips e = showing e entering
 
 -- says that it is tripped, whatever it does
-unfoldable pub saysTripped : Program
-saysTripped = showing tripped
+unfoldable pub saysTripped : Equipment → Program
+saysTripped e = showing e tripped
 
 -- ---- sham images and reports
 
@@ -228,9 +193,9 @@ unfoldable pub savedWithoutHeld : Board → List ℕ → List ℕ
 savedWithoutHeld b buffer = savedInto (withCounts (b .ramp) (b .recovery) (b .side) 0 b) buffer
 
 -- a report whose bits are always 0
-unfoldable pub reportWithoutBits : Settings → History → Items
-reportWithoutBits st h =
-    let r = historyReport ourEquipment st h in
+unfoldable pub reportWithoutBits : Equipment → Settings → History → Items
+reportWithoutBits e st h =
+    let r = historyReport e st h in
     record { status = r .status; bits = replicate 9 false; share = r .share; recovery = r .recovery; side = r .side; held = r .held; watts = r .watts; vars = r .vars }
 
 -- a report with another recovery count and other watts
@@ -238,20 +203,20 @@ abbrev withRecovery : ℕ → ℕ → Items → Items
 withRecovery recovery watts r = record { status = r .status; bits = r .bits; share = r .share; recovery = recovery; side = r .side; held = r .held; watts = watts; vars = r .vars }
 
 -- it shows a full recovery count, whatever came before
-unfoldable pub reportFullAtOnce : Settings → History → Items
-reportFullAtOnce st h = let r = historyReport ourEquipment st h in withRecovery recoveryTop (r .watts) r
+unfoldable pub reportFullAtOnce : Equipment → Settings → History → Items
+reportFullAtOnce e st h = let r = historyReport e st h in withRecovery recoveryTop (r .watts) r
 
 -- it counts as it should, and gives what the other limits leave at once: the jolt; what it holds in an event is what ours holds
-unfoldable pub reportUnheld : Settings → History → Items
-reportUnheld st [] = historyReport ourEquipment st []
-reportUnheld st (x ∷ h) =
-    let r = historyReport ourEquipment st (x ∷ h) in
-    withRecovery (r .recovery) (wattsOf ourEquipment st x (r .status) (r .share) recoveryTop (r .held)) r
+unfoldable pub reportUnheld : Equipment → Settings → History → Items
+reportUnheld e st [] = historyReport e st []
+reportUnheld e st (x ∷ h) =
+    let r = historyReport e st (x ∷ h) in
+    withRecovery (r .recovery) (wattsOf e st x (r .status) (r .share) recoveryTop (r .held)) r
 
 -- it counts as it should, and gives nothing until the count is full: the jolt, 0.4 s later
-unfoldable pub reportWithheld : Settings → History → Items
-reportWithheld st h =
-    let r = historyReport ourEquipment st h in
+unfoldable pub reportWithheld : Equipment → Settings → History → Items
+reportWithheld e st h =
+    let r = historyReport e st h in
     withRecovery (r .recovery) (cond (eqb (r .recovery) recoveryTop) (r .watts) 0) r
 
 -- ---- shams where the frequency is far outside
@@ -260,23 +225,23 @@ abbrev beyondRideThrough : Slice → Bool
 beyondRideThrough x = not (within 57000 62000 (frequency x))
 
 -- its limits' counters stop there: a board in service ceases to energize for as long as permission is on
-unfoldable pub stopsCounting : Program
-stopsCounting =
+unfoldable pub stopsCounting : Equipment → Program
+stopsCounting e =
     record {
       start = fresh;
       step = λ b st x.
-          let t = honest b st x in
+          let t = honest e b st x in
           let on = inService (b .status) && permitted x in
           let held = heldAfter (b .side) (sideAfter on (frequency x)) (b .held) (b .watts) in
-          let stood = settled ourEquipment st x (take 8 (b .counters) ++ (0 ∷ [])) on (cond on (b .ramp) 0) (cond on 0 recoveryTop) held in
-          cond (beyondRideThrough x && eqb (answerNumber (t .answer)) 0) (reporting st stood) t;
+          let stood = settled e st x (take 8 (b .counters) ++ (0 ∷ [])) on (cond on (b .ramp) 0) (cond on 0 recoveryTop) held in
+          cond (beyondRideThrough x && eqb (answerNumber (t .answer)) 0) (reporting e st stood) t;
     }
 
 -- it goes on giving power there, in mandatory operation, whatever the voltages: with a full recovery count, as much as the other limits leave, with what ours holds
-unfoldable pub reportRidingOn : Settings → History → Items
-reportRidingOn st [] = historyReport ourEquipment st []
-reportRidingOn st (x ∷ h) =
-    let r = historyReport ourEquipment st (x ∷ h) in
+unfoldable pub reportRidingOn : Equipment → Settings → History → Items
+reportRidingOn e st [] = historyReport e st []
+reportRidingOn e st (x ∷ h) =
+    let r = historyReport e st (x ∷ h) in
     let riding : Items = record {
       status = 3;
       bits = r .bits;
@@ -284,23 +249,23 @@ reportRidingOn st (x ∷ h) =
       recovery = recoveryTop;
       side = r .side;
       held = r .held;
-      watts = wattsOf ourEquipment st x 3 (r .share) recoveryTop (r .held);
-      vars = varsOf ourEquipment st x 3;
+      watts = wattsOf e st x 3 (r .share) recoveryTop (r .held);
+      vars = varsOf e st x 3;
     } in
     cond (beyondRideThrough x && inService (r .status)) riding r
 
 -- it ceases to energize at a sample of this frequency, too
-unfoldable pub reportCeasingAt : ℕ → Settings → History → Items
-reportCeasingAt end st [] = historyReport ourEquipment st []
-reportCeasingAt end st (x ∷ h) =
-    let r = historyReport ourEquipment st (x ∷ h) in
+unfoldable pub reportCeasingAt : Equipment → ℕ → Settings → History → Items
+reportCeasingAt e end st [] = historyReport e st []
+reportCeasingAt e end st (x ∷ h) =
+    let r = historyReport e st (x ∷ h) in
     let ceased : Items = record { status = 5; bits = r .bits; share = r .share; recovery = 0; side = r .side; held = r .held; watts = 0; vars = pos 0 } in
     cond (eqb (frequency x) end && inService (r .status)) ceased r
 
 -- it shows momentary cessation where it ceases to energize
-unfoldable pub reportMomentary : Settings → History → Items
-reportMomentary st h =
-    let r = historyReport ourEquipment st h in
+unfoldable pub reportMomentary : Equipment → Settings → History → Items
+reportMomentary e st h =
+    let r = historyReport e st h in
     record { status = min 4 (r .status); bits = r .bits; share = r .share; recovery = r .recovery; side = r .side; held = r .held; watts = r .watts; vars = r .vars }
 
 -- ---- sham readings of sheets
@@ -352,20 +317,20 @@ stepsPastReturn e st b l = lineStep e st b (cleaned l)
 -- ---- sham printings: what ours prints, but where the sheet is refused
 
 -- the answers to the lines after the refused one, by the default settings
-abbrev furtherAnswers : SettingsCheck → List ℕ → List ℕ
-furtherAnswers SettingsCheck.Accepted rest = []
-furtherAnswers (SettingsCheck.Refused cause line) rest = answersFrom ourEquipment defaultSettings fresh (suc line) (linesIn (afterLine rest))
+abbrev furtherAnswers : Equipment → SettingsCheck → List ℕ → List ℕ
+furtherAnswers e SettingsCheck.Accepted rest = []
+furtherAnswers e (SettingsCheck.Refused cause line) rest = answersFrom e defaultSettings fresh (suc line) (linesIn (afterLine rest))
 
 -- it goes on after the refusal line
-unfoldable pub goesOn : List ℕ → List ℕ
-goesOn input =
+unfoldable pub goesOn : Equipment → List ℕ → List ℕ
+goesOn e input =
     let r = readSheet (readPart input) in
-    transcript ourEquipment input ++ furtherAnswers (r .check) (drop (r .start) (readPart input))
+    transcript e input ++ furtherAnswers e (r .check) (drop (r .start) (readPart input))
 
 abbrev ifAccepted : SettingsCheck → List ℕ → List ℕ
 ifAccepted SettingsCheck.Accepted text = text
 ifAccepted (SettingsCheck.Refused cause line) text = []
 
 -- it prints nothing
-unfoldable pub saysNothing : List ℕ → List ℕ
-saysNothing input = ifAccepted (readSheet (readPart input) .check) (transcript ourEquipment input)
+unfoldable pub saysNothing : Equipment → List ℕ → List ℕ
+saysNothing e input = ifAccepted (readSheet (readPart input) .check) (transcript e input)

@@ -1,0 +1,2 @@
+pub mod ExampleSheets
+pub mod Ours

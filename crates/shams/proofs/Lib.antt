@@ -1,0 +1,13 @@
+pub mod Opened
+pub mod ShamReport
+pub mod Shams
+pub mod ShamStatus
+pub mod ShamReadings
+pub mod ShamLines
+pub mod ShamRefusals
+pub mod ShamPrintings
+pub mod ShamCarryOvers
+pub mod ShamRules
+pub mod ShamRamps
+pub mod ShamDroops
+pub mod Caught
