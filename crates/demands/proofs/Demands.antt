@@ -9,7 +9,7 @@ use Rattle.rules.specs.Curves.{curve}
 use Rattle.rules.specs.Settings.{settingsAccepted}
 use Rattle.rules.specs.declared.Settings.{Settings}
 use Rattle.rules.specs.declared.SettingsCheck.{SettingsCheck}
-use Rattle.saltdelta.specs.Answers.{settingsAfter}
+use Rattle.calls.specs.Answers.{settingsAfter}
 use Rattle.rules.specs.Images.{savedInto}
 use Rattle.roots.proofs.Voltages.{voltage-root}
 use Rattle.laws.proofs.FirstCause.{refuses-rightly}
@@ -43,8 +43,8 @@ use Rattle.claims.specs.RampPairs.{RampsTold, RampsUntold}
 use Rattle.causes.specs.Calls.{Program, ruledBy}
 use Rattle.replay.proofs.Groups.{by-seven}
 use Rattle.replay.proofs.Demanded.{replays-rightly}
-use Rattle.saltdelta.proofs.Refusals.{exported-refuse}
-use Rattle.saltdelta.proofs.Exported.{board-is, exported-replay}
+use Rattle.calls.proofs.Refusals.{exported-refuse}
+use Rattle.exported.proofs.Exported.{board-is, exported-replay}
 use Rattle.carryover.proofs.Carrying.{refused-rightly, round-trips}
 use Rattle.carryover.proofs.Numbered.{numbered}
 use Rattle.explain.proofs.Alone.{leaves-reports}
@@ -52,7 +52,7 @@ use Rattle.explain.proofs.Showing.{board-alone, shows-rules}
 use Rattle.explain.proofs.Naming.{names-status, one-status-rule, names-watts, one-watts-rule}
 use Rattle.explain.proofs.OnRecords.{names-on-records}
 use Rattle.explain.proofs.Numbers.{numbers-tell}
-use Rattle.saltdelta.proofs.Explaining.{explains-in-numbers}
+use Rattle.exported.proofs.InNumbers.{explains-in-numbers}
 use Rattle.demands.specs.Demands.{OurEquipmentSound, AlikeEquipmentStepsAlike, AnyRefusals, OurRefusals}
 use Rattle.demands.specs.Demands.{OurSheetRefusals, AnyTranscript, OurTranscript, AnySessions, OurSessions}
 use Rattle.demands.specs.Demands.{AnyTripAndReturn, OurTripAndReturn, AnyTwoHistories, OurTwoHistories, SheetsReadBack}
@@ -65,7 +65,7 @@ use Rattle.demands.specs.Demands.{LentValues, RightReportsTrip, EveryCou
 use Rattle.demands.specs.Demands.{OurRecovery, AnyRideThroughEnds, OurRideThroughEnds, AnyDroop, OurDroop, AnyRampsTold}
 use Rattle.demands.specs.Demands.{OurRampsTold, AnyRampsUntold, OurRampsUntold, OurCarryOver, OneCarryOver, AnyWayBack}
 use Rattle.demands.specs.Demands.{OurWayBack, AnyRules, OurRules, OneRuling, EdgeValues, ExportedRefusals}
-use Rattle.demands.specs.Demands.{ExportedDemands, ExportedRamps, ExportedUnderTexts, ExportedRules, OurReplay}
+use Rattle.demands.specs.Demands.{ExportedDemands, ExportedRamps, ExportedUnderTexts, ExportedRules, AnyReplay, OurReplay}
 use Rattle.demands.specs.Demands.{ExportedReplay, ReplayGroups, CodeContracts, CodeMeetsContracts}
 use Rattle.demands.proofs.Contracts.{contracts-say, code-meets}
 use Rattle.demands.proofs.CarryOver.{carries-records, histories-back}
@@ -302,11 +302,14 @@ exportedUnderTexts e sound old before s zero =
 pub exportedRules : ExportedRules
 exportedRules = explains-in-numbers
 
+pub anyReplay : AnyReplay
+anyReplay = replays-rightly
+
 pub ourReplay : OurReplay
-ourReplay = replays-rightly ourEquipment our-equipment-sound
+ourReplay = anyReplay ourEquipment our-equipment-sound
 
 pub exportedReplay : ExportedReplay
-exportedReplay = exported-replay our-equipment-sound
+exportedReplay = exported-replay
 
 pub replayGroups : ReplayGroups
 replayGroups = by-seven

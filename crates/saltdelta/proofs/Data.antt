@@ -3,30 +3,30 @@
 use mir.Syntax.{w32}
 use denote.Struct.Laws as LL
 use Rattle.walk.proofs.Whole.{Whole, Known, of-struct, of-uint}
-use Rattle.saltdelta.specs.declared.SheetCall.{SheetCall}
-use Rattle.saltdelta.specs.declared.StepCall.{StepCall}
-use Rattle.saltdelta.specs.declared.ExplainedCall.{ExplainedCall}
-use Rattle.saltdelta.specs.declared.ReplayCall.{ReplayCall}
+use Rattle.calls.specs.declared.SheetCall.{SheetCall}
+use Rattle.calls.specs.declared.StepCall.{StepCall}
+use Rattle.calls.specs.declared.ExplainedCall.{ExplainedCall}
+use Rattle.calls.specs.declared.ReplayCall.{ReplayCall}
 use Rattle.rules.proofs.Board as B
 use Rattle.rules.proofs.Board.Laws as B′
 use Rattle.rules.proofs.Settings as T
 use Rattle.rules.proofs.Settings.Laws as T′
 use Rattle.rules.proofs.Report as R
 use Rattle.rules.proofs.Report.Laws as R′
-use Rattle.saltdelta.proofs.SheetAnswer as A
-use Rattle.saltdelta.proofs.SheetAnswer.Laws as A′
-use Rattle.saltdelta.proofs.SheetCall as C
-use Rattle.saltdelta.proofs.SheetCall.Laws as C′
-use Rattle.saltdelta.proofs.StepCall as S
-use Rattle.saltdelta.proofs.StepCall.Laws as S′
-use Rattle.saltdelta.proofs.Explained as E
-use Rattle.saltdelta.proofs.Explained.Laws as E′
-use Rattle.saltdelta.proofs.ExplainedCall as X
-use Rattle.saltdelta.proofs.ExplainedCall.Laws as X′
-use Rattle.saltdelta.proofs.ReplayAnswer as P
-use Rattle.saltdelta.proofs.ReplayAnswer.Laws as P′
-use Rattle.saltdelta.proofs.ReplayCall as Q
-use Rattle.saltdelta.proofs.ReplayCall.Laws as Q′
+use Rattle.calls.proofs.SheetAnswer as A
+use Rattle.calls.proofs.SheetAnswer.Laws as A′
+use Rattle.calls.proofs.SheetCall as C
+use Rattle.calls.proofs.SheetCall.Laws as C′
+use Rattle.calls.proofs.StepCall as S
+use Rattle.calls.proofs.StepCall.Laws as S′
+use Rattle.calls.proofs.Explained as E
+use Rattle.calls.proofs.Explained.Laws as E′
+use Rattle.calls.proofs.ExplainedCall as X
+use Rattle.calls.proofs.ExplainedCall.Laws as X′
+use Rattle.calls.proofs.ReplayAnswer as P
+use Rattle.calls.proofs.ReplayAnswer.Laws as P′
+use Rattle.calls.proofs.ReplayCall as Q
+use Rattle.calls.proofs.ReplayCall.Laws as Q′
 
 abbrev pub number : Whole
 number = of-uint w32

@@ -1,7 +1,2 @@
-pub mod Answering
 pub mod Data
-pub mod InPlace
-pub mod Refusals
-pub mod Exported
-pub mod Explaining
 pub mod Storing

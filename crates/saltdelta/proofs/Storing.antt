@@ -16,18 +16,18 @@ use Rattle.rules.specs.declared.Settings.{Settings}
 use Rattle.causes.specs.Calls.{freshReport}
 use Rattle.replay.specs.Replays.{replayNumber, replayedBy, replayed, replayedInto}
 use Rattle.replay.proofs.Answering.{kept, given}
-use Rattle.saltdelta.specs.Answers.{recordAfter, reportAfter, reportOr, stepNumber, sheetAnswer, settingsAfter, replayAnswer, replayReport, reportAfterBy, stepNumberBy}
-use Rattle.saltdelta.specs.Explained.{explainedFresh, explainedAfter}
-use Rattle.saltdelta.specs.declared.StepCall.{StepCall}
-use Rattle.saltdelta.specs.declared.Explained.{Explained}
-use Rattle.saltdelta.specs.declared.ExplainedCall.{ExplainedCall}
-use Rattle.saltdelta.specs.declared.SheetCall.{SheetCall}
-use Rattle.saltdelta.specs.declared.SheetAnswer.{SheetAnswer}
-use Rattle.saltdelta.specs.declared.ReplayCall.{ReplayCall}
-use Rattle.saltdelta.specs.declared.ReplayAnswer.{ReplayAnswer}
+use Rattle.calls.specs.Answers.{recordAfter, reportAfter, reportOr, stepNumber, sheetAnswer, settingsAfter, replayAnswer, replayReport, reportAfterBy, stepNumberBy, replayAnswerBy, replayReportBy}
+use Rattle.calls.specs.ExplainedCalls.{explainedFresh, explainedAfter}
+use Rattle.calls.specs.declared.StepCall.{StepCall}
+use Rattle.calls.specs.declared.Explained.{Explained}
+use Rattle.calls.specs.declared.ExplainedCall.{ExplainedCall}
+use Rattle.calls.specs.declared.SheetCall.{SheetCall}
+use Rattle.calls.specs.declared.SheetAnswer.{SheetAnswer}
+use Rattle.calls.specs.declared.ReplayCall.{ReplayCall}
+use Rattle.calls.specs.declared.ReplayAnswer.{ReplayAnswer}
 use Rattle.basics.proofs.Refusals.{number-bounds}
-use Rattle.saltdelta.proofs.Refusals.{record-kept, report-kept, settings-kept, settings-stored}
-use Rattle.saltdelta.proofs.Explaining.{explained-whichever, explained-untouched}
+use Rattle.calls.proofs.Refusals.{record-kept, report-kept, settings-kept, settings-stored}
+use Rattle.calls.proofs.Explaining.{explained-whichever, explained-untouched}
 
 -- ---- a step
 
@@ -117,17 +117,17 @@ module _ (st : Settings) (samples buffer : List ℕ) where
       (report ≡ replayReport before st samples buffer) × (bytes ≡ replayedInto st samples buffer) × (answer ≡ replayAnswer st samples buffer)
 
   numbered : (r : ReplayCall) (bytes : List ℕ) → ReplaySays r bytes → r .answer .number ≡ replayNumber st buffer
-  unfolding replayAnswer replayedBy
+  unfolding replayAnswerBy replayedBy
   numbered r bytes says = ap (λ (a : ReplayAnswer). a .number) (says .1)
 
   pub replay-stored : (before : Report) (r : ReplayCall) (bytes : List ℕ) → ReplaySays r bytes → r .answer .number ≡ 0
       → ReplayLeaves before (r .report) bytes (r .answer)
-  unfolding replayReport
+  unfolding replayReportBy
   replay-stored before r bytes says zero =
       (says .0 ∙ sym (given (replayNumber st buffer) _ _ (sym (numbered r bytes says) ∙ zero)), says .2, says .1)
 
   pub replay-kept : (before : Report) (r : ReplayCall) (bytes : List ℕ) → ReplaySays r bytes → 0 < r .answer .number
       → ReplayLeaves before before bytes (r .answer)
-  unfolding replayReport
+  unfolding replayReportBy
   replay-kept before r bytes says refused =
       (sym (kept (replayNumber st buffer) _ before (subst (λ (n : ℕ). 0 < n) (numbered r bytes says) refused)), says .2, says .1)

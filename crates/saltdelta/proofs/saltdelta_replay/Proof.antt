@@ -26,12 +26,12 @@ use Rattle.saltdelta.proofs.Data.{settings, report, replay-answer, repl
 use Rattle.saltdelta.proofs.Storing.{ReplaySays, ReplayLeaves, replay-stored, replay-kept}
 use Rattle.rules.specs.declared.Settings.{Settings}
 use Rattle.rules.specs.declared.Report.{Report}
-use Rattle.saltdelta.specs.declared.ReplayAnswer.{ReplayAnswer}
-use Rattle.saltdelta.specs.declared.ReplayCall.{ReplayCall}
-use Rattle.saltdelta.proofs.replay_call as callee
-use Rattle.saltdelta.proofs.replay_call.Symbol as callee-def
-use Rattle.saltdelta.proofs.replay_call.Symbol.{name as #saltdelta·replay-call}
-use Rattle.saltdelta.proofs.replay_call.Met as callee-thm
+use Rattle.calls.specs.declared.ReplayAnswer.{ReplayAnswer}
+use Rattle.calls.specs.declared.ReplayCall.{ReplayCall}
+use Rattle.calls.proofs.replay_call as callee
+use Rattle.calls.proofs.replay_call.Symbol as callee-def
+use Rattle.calls.proofs.replay_call.Symbol.{name as #calls·replay-call}
+use Rattle.calls.proofs.replay_call.Met as callee-thm
 use Rattle.saltdelta.proofs.saltdelta_replay.Key.{name as #saltdelta·saltdelta-replay}
 use Rattle.saltdelta.proofs.saltdelta_replay as self
 use Rattle.saltdelta.proofs.saltdelta_replay.Statement as stated
@@ -116,7 +116,7 @@ module _ {M : Type 1} (𝓤 : URA M) (H : Heap 𝓤) (A : Atoms 𝓤) (W : Given
     abbrev Says : ReplayCall → List ℕ → Type 0
     Says = ReplaySays (p₀ .now) (p₁ .now) (p₃ .now)
 
-    module _ (C : Calls 𝓤 H) (Λ : Loops 𝓤 H) (fm : FmC 𝓤 H (W .laws) C) (known : Triple 𝓤 (C #saltdelta·replay-call) Callee) where
+    module _ (C : Calls 𝓤 H) (Λ : Loops 𝓤 H) (fm : FmC 𝓤 H (W .laws) C) (known : Triple 𝓤 (C #calls·replay-call) Callee) where
       -- from the test on
       module _ (l0 l1 l2 l3 l4 l5 l6 l7 l8 l9 : ℕ) (r : ReplayCall) (bytes : List ℕ) (e : Says r bytes) (same : length bytes ≡ length (p₃ .now))
           (g : Known replay-call r) where
@@ -178,7 +178,7 @@ module _ {M : Type 1} (𝓤 : URA M) (H : Heap 𝓤) (A : Atoms 𝓤) (W : Given
           (from ! (stop !)) (init ! 26 refl (tt, tt)) $
           move ! (4 ∷ 5 ∷ 3 ∷ 1 ∷ 6 ∷ 7 ∷ 2 ∷ 0 ∷ []) $ tested l0 l1 l2 l3 l4 l5 l6 l7 l8 l9 r (ws .1 .1 .0) e same g))))))))))))))
 
-  meets : (𝓣 : Tables 𝓤 H) → Triple 𝓤 (𝓣 .C #saltdelta·replay-call) Callee
+  meets : (𝓣 : Tables 𝓤 H) → Triple 𝓤 (𝓣 .C #calls·replay-call) Callee
       → Meets 𝓤 H A self.signature (WpFn 𝓤 H (𝓣 .C) (𝓣 .Λ) code.function) (self.spec 𝓤 H A at-mem run)
   meets 𝓣 known =
       meets-by 𝓤 H A W self.ended stayed (self.clauses 𝓤 H A at-mem run) code.function 𝓣 (
@@ -206,5 +206,5 @@ saltdelta-replay-spec 𝓤 H 𝓜 𝓖 𝓡 =
     entered 𝓤 H (tripleOf 𝓤 H (𝓖 .A) self.signature (self.spec 𝓤 H (𝓖 .A) (𝓜 .mem) (𝓡 .run)))
     (tables 𝓤 H 𝓜 𝓡 code.env .C) (tables 𝓤 H 𝓜 𝓡 code.env .Λ) #saltdelta·saltdelta-replay code.function (code.unfolded 𝓤 H 𝓜 𝓡)
     (meets 𝓤 H (𝓖 .A) (givenOf 𝓤 H 𝓜 𝓖) (𝓜 .mem) (𝓡 .run) (tablesOf 𝓤 H 𝓜 (tables 𝓤 H 𝓜 𝓡 code.env))
-    (cited 𝓤 H (Callee 𝓤 H (𝓖 .A) (givenOf 𝓤 H 𝓜 𝓖) (𝓜 .mem) (𝓡 .run)) 𝓜 𝓡 code.env #saltdelta·replay-call callee-def.routine
-    code.calls-saltdelta·replay-call (callee-thm.met 𝓤 H 𝓜 𝓖 𝓡)))
+    (cited 𝓤 H (Callee 𝓤 H (𝓖 .A) (givenOf 𝓤 H 𝓜 𝓖) (𝓜 .mem) (𝓡 .run)) 𝓜 𝓡 code.env #calls·replay-call callee-def.routine
+    code.calls-calls·replay-call (callee-thm.met 𝓤 H 𝓜 𝓖 𝓡)))

@@ -22,10 +22,10 @@ use Rattle.saltdelta.proofs.Data.{board, number}
 use Rattle.rules.specs.Refusals.{savedNumber}
 use Rattle.rules.specs.Images.{saveCheck, savedInto}
 use Rattle.rules.specs.declared.Board.{Board}
-use Rattle.saltdelta.proofs.save_number as callee
-use Rattle.saltdelta.proofs.save_number.Symbol as callee-def
-use Rattle.saltdelta.proofs.save_number.Symbol.{name as #saltdelta·save-number}
-use Rattle.saltdelta.proofs.save_number.Met as callee-thm
+use Rattle.calls.proofs.save_number as callee
+use Rattle.calls.proofs.save_number.Symbol as callee-def
+use Rattle.calls.proofs.save_number.Symbol.{name as #calls·save-number}
+use Rattle.calls.proofs.save_number.Met as callee-thm
 use Rattle.saltdelta.proofs.saltdelta_save.Key.{name as #saltdelta·saltdelta-save}
 use Rattle.saltdelta.proofs.saltdelta_save as self
 use Rattle.saltdelta.proofs.saltdelta_save.Statement as stated
@@ -79,7 +79,7 @@ module _ {M : Type 1} (𝓤 : URA M) (H : Heap 𝓤) (A : Atoms 𝓤) (W : Given
         qed W (‵ Buffer ∷ ‵ (flft κ₁ q₁) ∷ []) ∵ nothing ! $ move ! (1 ∷ 0 ∷ []) $ fjoin ! $ have ! board (p₀ .now) g $ fjoin ! $
         nothing ! $ move ! (2 ∷ 0 ∷ []) $ join ! $ join ! $ frame ! $ done !
 
-    module _ (C : Calls 𝓤 H) (Λ : Loops 𝓤 H) (fm : FmC 𝓤 H (W .laws) C) (known : Triple 𝓤 (C #saltdelta·save-number) Callee) where
+    module _ (C : Calls 𝓤 H) (Λ : Loops 𝓤 H) (fm : FmC 𝓤 H (W .laws) C) (known : Triple 𝓤 (C #calls·save-number) Callee) where
       walk : Is (MutSlice (named 1) κ₁ u8) p₁ (slice-vals p₁)
           → ent 𝓤 (onEntry 𝓤 H A self.signature (κ, (κ₁, tt)) (q, (q₁, tt)) x at) (WpFn 𝓤 H C Λ code.function Args Post)
       walk is₁ =
@@ -104,7 +104,7 @@ module _ {M : Type 1} (𝓤 : URA M) (H : Heap 𝓤) (A : Atoms 𝓤) (W : Given
           landed ! number r g 4 refl refl $ returns ! (look ! 4 refl) $ move ! (upTo 4 12) $ gone ! $ gone ! $ gone ! $ gone ! $ gone ! $ gone ! $ free0 ! $
           move ! (2 ∷ 3 ∷ 1 ∷ 0 ∷ []) $ by ! (exits r (ws .1 .0) e same g)))))))))))
 
-  meets : (𝓣 : Tables 𝓤 H) → Triple 𝓤 (𝓣 .C #saltdelta·save-number) Callee
+  meets : (𝓣 : Tables 𝓤 H) → Triple 𝓤 (𝓣 .C #calls·save-number) Callee
       → Meets 𝓤 H A self.signature (WpFn 𝓤 H (𝓣 .C) (𝓣 .Λ) code.function) (self.spec 𝓤 H A at-mem run)
   meets 𝓣 known =
       meets-by 𝓤 H A W self.ended stayed (self.clauses 𝓤 H A at-mem run) code.function 𝓣
@@ -120,5 +120,5 @@ saltdelta-save-spec 𝓤 H 𝓜 𝓖 𝓡 =
     entered 𝓤 H (tripleOf 𝓤 H (𝓖 .A) self.signature (self.spec 𝓤 H (𝓖 .A) (𝓜 .mem) (𝓡 .run)))
     (tables 𝓤 H 𝓜 𝓡 code.env .C) (tables 𝓤 H 𝓜 𝓡 code.env .Λ) #saltdelta·saltdelta-save code.function (code.unfolded 𝓤 H 𝓜 𝓡)
     (meets 𝓤 H (𝓖 .A) (givenOf 𝓤 H 𝓜 𝓖) (𝓜 .mem) (𝓡 .run) (tablesOf 𝓤 H 𝓜 (tables 𝓤 H 𝓜 𝓡 code.env))
-    (cited 𝓤 H (Callee 𝓤 H (𝓖 .A) (givenOf 𝓤 H 𝓜 𝓖) (𝓜 .mem) (𝓡 .run)) 𝓜 𝓡 code.env #saltdelta·save-number callee-def.routine
-    code.calls-saltdelta·save-number (callee-thm.met 𝓤 H 𝓜 𝓖 𝓡)))
+    (cited 𝓤 H (Callee 𝓤 H (𝓖 .A) (givenOf 𝓤 H 𝓜 𝓖) (𝓜 .mem) (𝓡 .run)) 𝓜 𝓡 code.env #calls·save-number callee-def.routine
+    code.calls-calls·save-number (callee-thm.met 𝓤 H 𝓜 𝓖 𝓡)))

@@ -1,4 +1,0 @@
-pub mod Answers
-pub mod Exported
-pub mod Explained
-pub mod Refuses
