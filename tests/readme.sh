@@ -80,9 +80,9 @@ same "docs/CONTRIBUTING.md: its crates are not those of crates.txt in their orde
 picture=$(sed -n '/^## The crates/,$p' README.md | awk '/^```/ { on = !on; next } on { print substr($0, 17) }' | sed -E 's/ {4,}[a-z][a-z ,;]*$//' | grep -oE '[a-z]+' | sort -u)
 same "README.md: the crates in its picture are not those of crates.txt" "$(sort <<< "$crates")" "$picture"
 
-# What must be believed names every file of definitions of `rules` and `claims`, and no other.
+# What must be believed names every file of definitions of `rules`, `causes` and `claims`, and no other.
 believed=$(sed -n '/^## What must be believed/,/^## What is assumed/p' docs/PROOF.md)
-for crate in rules claims; do
+for crate in rules causes claims; do
     files=$(cd "crates/$crate/specs" && ls ./*.antt | sed 's#^\./##' | grep -vx Lib.antt)
     named=$(awk -v head="in \`crates/$crate/specs/\`:$" '/^[A-Z]/ { on = $0 ~ head } on' <<< "$believed" | grep -oE '`[A-Z][A-Za-z]*\.antt`' | tr -d '`' | sort)
     same "docs/PROOF.md: what must be believed of $crate" "$files" "$named"
