@@ -109,8 +109,8 @@ pub const WRONG: &[Copy] = &[
     wrong(
         "in the C face",
         Array,
-        "saltdelta::save_number",
-        &[Put(("crates/saltdelta/src/lib.rt", "image::save(b, out)"), "image::save(b, &mut [0; 49])")],
+        "calls::save_number",
+        &[Put(("crates/calls/src/lib.rt", "image::save(b, out)"), "image::save(b, &mut [0; 49])")],
     ),
     wrong("in a refusal's number", Array, "rules::refusal_number", &[Put((RULES, "match cause {"), "let numbers = [1, 2]; match cause {")]),
     wrong("a local with a type's name", Array, "image::put_image", &[Put(STATUS, "0;\n    let u8 = b.status;\n    put_field(&mut [u8], 0, 1, 0)")]),
