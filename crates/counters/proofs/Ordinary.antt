@@ -10,7 +10,7 @@ use Rattle.rules.specs.declared.Settings.{Settings}
 use Rattle.laws.proofs.Limits.{LimitIn, limits-in}
 use Rattle.laws.proofs.InRange.{breaks, breaks-none}
 use Rattle.readings.specs.declared.reading.Reading.{Reading}
-use Rattle.counters.specs.Rules.{enters, hitAt}
+use Rattle.counting.specs.Counting.{enters, hitAt}
 
 module _ (r : Reading) (s : Settings) (ok : settingsAccepted s ≡ true) (e : enters r s ≡ true) where
   none : (k : Kind) (i : ℕ) → LimitIn k (limitAt s i) → breaks k (limitAt s i .level) (r .low) (r .high) (r .frequency) ≡ false

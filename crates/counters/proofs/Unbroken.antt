@@ -16,7 +16,8 @@ use Rattle.rules.specs.Reports.{packedAfter}
 use Rattle.rules.specs.declared.Settings.{Settings}
 use Rattle.laws.proofs.Limits.{LimitsIn, limits-in}
 use Rattle.readings.specs.declared.reading.Reading.{Reading}
-use Rattle.counters.specs.Rules.{hitAt, topAt, ruleAt, rulesFrom, rulesAt}
+use Rattle.counters.specs.Rules.{ruleAt, rulesFrom, rulesAt}
+use Rattle.counting.specs.Counting.{hitAt, topAt}
 
 -- the clearing time of each limit is at least 1
 clearing-some : (s : Settings) (i : ℕ) (ks : List Kind) → LimitsIn s i ks → (j : ℕ) → j < length ks → 1 ≤ limitAt s (i + j) .clearing

@@ -8,7 +8,7 @@ use Rattle.rules.specs.declared.Region.the-variants.{Continuous}
 use Rattle.rules.specs.declared.Settings.{Settings}
 use Rattle.laws.proofs.InRange.{continuous-in, continuous-voltage}
 use Rattle.readings.specs.declared.reading.Reading.{Reading}
-use Rattle.counters.specs.Rules.{enters}
+use Rattle.counting.specs.Counting.{enters}
 use Rattle.ridethrough.specs.Regions.{regionAt}
 
 pub continuous : (r : Reading) (s : Settings) → settingsAccepted s ≡ true → enters r s ≡ true → regionAt r ≡ Continuous

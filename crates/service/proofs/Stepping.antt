@@ -26,7 +26,8 @@ use Rattle.laws.proofs.Statuses.{kept-service}
 use Rattle.laws.proofs.SameRules.{SameRules, counted-same, full-same}
 use Rattle.readings.specs.declared.reading.Reading.{Reading}
 use Rattle.readings.specs.Readings.{readingOf}
-use Rattle.counters.specs.Rules.{enters, rulesFrom, rulesAt}
+use Rattle.counters.specs.Rules.{rulesFrom, rulesAt}
+use Rattle.counting.specs.Counting.{enters}
 use Rattle.ridethrough.specs.Regions.{regionAt}
 use Rattle.counters.proofs.Counting.{rules-length}
 use Rattle.service.specs.Steps.{Bits}

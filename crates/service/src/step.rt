@@ -16,7 +16,7 @@ ghost use Rattle.causes.specs.Calls.{freshReport};
 ghost use Rattle.service.specs.Steps.{Bits, reported};
 use counters::Counters;
 use counters::count_all;
-use counters::in_range;
+use counting::in_range;
 use droop::held_after;
 use droop::side_after;
 use output::powers_in;

@@ -1,4 +1,2 @@
-pub mod Words
-pub mod Rows
 pub mod Sheet
 pub mod Steps

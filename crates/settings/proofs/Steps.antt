@@ -16,7 +16,7 @@ use Rattle.rules.specs.declared.Settings.{Settings}
 use Rattle.rules.specs.declared.Refusal.{Refusal}
 use Rattle.rules.specs.declared.Refusal.the-variants.{Range, Rise}
 use Rattle.rules.specs.declared.SettingsCheck.{SettingsCheck}
-use Rattle.settings.specs.Rows.{rowAt}
+use Rattle.ranges.specs.Rows.{rowAt}
 use Rattle.settings.specs.Lines.{settingsLine, lineFound, firstLinesCheck}
 
 abbrev at : List Pair → ℕ → Pair

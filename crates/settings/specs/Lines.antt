@@ -10,10 +10,6 @@ use Rattle.rules.specs.Settings as rules
 use Rattle.rules.specs.Settings.{pair, rows, linesOf, lineCheck, checkFrom}
 use Rattle.rules.specs.declared.Settings.{Settings}
 use Rattle.rules.specs.declared.SettingsCheck.{SettingsCheck}
-use Rattle.settings.specs.declared.lines.Pair.{Pair}
-
-abbrev pub pairOf : Pair → rules.Pair
-pairOf p = pair (p .first) (p .second)
 
 abbrev pub settingsLine : Settings → ℕ → List rules.Pair
 settingsLine s i = getD (linesOf s) i []

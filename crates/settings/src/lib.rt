@@ -6,11 +6,10 @@ ghost use Rattle.rules.specs.Tests.{all};
 ghost use Rattle.rules.specs.Settings.{sheetLines, inRow, rising, settingsCheck};
 ghost use Rattle.rules.specs.Refusals.{settingsNumber, lineOf};
 ghost use Rattle.causes.specs.FirstCause.{first, settingsCauses, causeLine};
-ghost use Rattle.settings.specs.Rows.{rowOf, rowAt};
+ghost use Rattle.ranges.specs.Rows.{rowOf, rowAt};
 ghost use Rattle.settings.specs.Lines.{settingsLine, lineFound, firstLinesCheck};
 
 mod lines;
-mod ranges;
 
 use lines::pair_at;
 use lines::pairs_in;

@@ -3,15 +3,11 @@ ghost use mathlib.Core.Path.{_≡_};
 ghost use Prim.Native.Nat.{_<_};
 ghost use lib.IntN.{pos};
 ghost use Rattle.rules.specs.Settings.{sheetLines, pair, pointPair};
-ghost use Rattle.settings.specs.Lines.{pairOf, settingsPair, pairsIn};
+ghost use Rattle.settings.specs.Lines.{settingsPair, pairsIn};
+ghost use Rattle.ranges.specs.Pairs.{pairOf};
+use ranges::Pair;
 use rules::Point;
 use rules::Settings;
-
-// Two numbers of a line, wide enough for any that lent settings hold.
-pub struct Pair {
-    pub first: i64,
-    pub second: i64,
-}
 
 fn unsigned(n: u32) -> i64
     ensures { λ r. ⌜ r ≡ pos n ⌝ }

@@ -9,7 +9,7 @@ use lib.IntN.{ℤ}
 use Rattle.rules.specs.declared.Settings.{Settings}
 use Rattle.rules.specs.declared.Refusal.the-variants.{Form}
 use Rattle.rules.specs.declared.SettingsCheck.{SettingsCheck}
-use Rattle.settings.specs.Rows.{rowAt}
+use Rattle.ranges.specs.Rows.{rowAt}
 use Rattle.settings.specs.Lines.{settingsLine, lineFound}
 use Rattle.text.specs.Lines.{numbersRead}
 use Rattle.text.specs.Places.{padded}

@@ -20,7 +20,7 @@ use Rattle.rules.specs.declared.Refusal.{Refusal}
 use Rattle.rules.specs.declared.Refusal.the-variants.{Form}
 use Rattle.rules.specs.declared.SettingsCheck.{SettingsCheck}
 use Rattle.formats.proofs.Forms.{line-written}
-use Rattle.settings.specs.Rows.{rowAt}
+use Rattle.ranges.specs.Rows.{rowAt}
 use Rattle.settings.specs.Lines.{settingsLine, lineFound}
 use Rattle.settings.proofs.Steps.{line-passes, line-refuses}
 use Rattle.formats.specs.Marks.{forms, formAt}

@@ -14,7 +14,7 @@ use Rattle.rules.specs.declared.Point.{Point}
 use Rattle.rules.specs.declared.Settings.{Settings}
 use Rattle.rules.specs.declared.Refusal.the-variants.{Form}
 use Rattle.rules.specs.declared.SettingsCheck.{SettingsCheck}
-use Rattle.settings.specs.Rows.{rowAt}
+use Rattle.ranges.specs.Rows.{rowAt}
 use Rattle.settings.specs.Lines.{settingsLine, lineFound}
 use Rattle.formats.specs.Marks.{formAt}
 use Rattle.text.specs.Places.{padded}

@@ -4,9 +4,9 @@ use mathlib.Core.Path.{_≡_, sym, ap, _∙_}
 use Prim.Native.Nat.{_+_, _-_, _≤_}
 use native.Mathlib.Omega.{arith}
 use Rattle.rules.specs.declared.SettingsCheck.{SettingsCheck}
-use Rattle.settings.specs.Rows.{rowAt}
+use Rattle.ranges.specs.Rows.{rowAt}
 use Rattle.settings.specs.Lines.{settingsLine, lineFound, firstLinesCheck}
-use Rattle.settings.proofs.Rows.{row-here}
+use Rattle.ranges.proofs.Rows.{row-here}
 use Rattle.settings.proofs.Steps.{from, from-first, line-more, line-end, line-passes, line-refuses}
 use borrow.Author.Needs.{needs}
 use Rattle.settings.proofs.check_first.Statement.{statement}

@@ -1,6 +1,6 @@
 -- `settings::check_line` meets its contract: the line's row is the one that the table has at its place.
 -- Assumes nothing.
-use Rattle.settings.proofs.Rows.{row-here}
+use Rattle.ranges.proofs.Rows.{row-here}
 use borrow.Author.Needs.{needs}
 use Rattle.settings.proofs.check_line.Statement.{statement}
 use Rattle.settings.proofs.check_line.Tie as tie

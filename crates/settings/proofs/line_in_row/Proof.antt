@@ -9,7 +9,7 @@ use borrow.Author.Needs.{needs}
 use borrow.Author.Tests.{not-true, not-false}
 use Rattle.rules.specs.Tests.{all}
 use Rattle.rules.specs.Settings.{inRow}
-use Rattle.settings.specs.Rows.{rowOf}
+use Rattle.ranges.specs.Rows.{rowOf}
 use Rattle.settings.specs.Lines.{settingsLine, pairsIn}
 use Rattle.settings.proofs.Sheet.{pairs-at, unmapped}
 use Rattle.settings.proofs.Steps.{range-more, range-end}

@@ -10,7 +10,7 @@ use borrow.Author.Needs.{needs}
 use borrow.Author.Tests.{not-true, not-false}
 use Rattle.rules.specs.Settings.{rising}
 use Rattle.settings.specs.Lines.{settingsLine, pairsIn}
-use Rattle.settings.proofs.Words.{word}
+use Rattle.ranges.proofs.Words.{word}
 use Rattle.settings.proofs.Sheet.{some-pair, pairs-at, unmapped}
 use Rattle.settings.proofs.Steps.{rise-more, rise-end}
 use Rattle.settings.proofs.rises.Statement.{statement}

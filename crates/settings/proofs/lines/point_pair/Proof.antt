@@ -2,7 +2,7 @@
 -- Assumes nothing.
 use native.Mathlib.Omega.{arith}
 use mir.Syntax.{w32, w64}
-use Rattle.settings.proofs.Words.{word}
+use Rattle.ranges.proofs.Words.{word}
 use borrow.Author.Needs.{needs}
 use Rattle.settings.proofs.lines.point_pair.Statement.{statement}
 use Rattle.settings.proofs.lines.point_pair.Tie as tie

@@ -1,7 +1,7 @@
 -- `settings::lines::unsigned_pair` meets its contract: a struct's signed field is read back from its bits.
 -- Assumes nothing.
 use mir.Syntax.{w64}
-use Rattle.settings.proofs.Words.{word}
+use Rattle.ranges.proofs.Words.{word}
 use borrow.Author.Needs.{needs}
 use Rattle.settings.proofs.lines.unsigned_pair.Statement.{statement}
 use Rattle.settings.proofs.lines.unsigned_pair.Tie as tie

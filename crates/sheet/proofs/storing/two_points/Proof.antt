@@ -1,7 +1,7 @@
 -- `sheet::storing::two_points` meets its contract.
 -- Assumes nothing.
 use mir.Syntax.{w32}
-use Rattle.settings.proofs.Words.{word}
+use Rattle.ranges.proofs.Words.{word}
 use borrow.Author.Needs.{needs}
 use Rattle.sheet.proofs.storing.two_points.Statement.{statement}
 use Rattle.sheet.proofs.storing.two_points.Tie as tie

@@ -4,7 +4,7 @@ use mathlib.Core.Path.{_≡_}
 use native.Mathlib.Omega.{arith}
 use mir.Syntax.{w32}
 use borrow.Author.Tests.{lt-ltb, ne-eqb}
-use Rattle.settings.proofs.Words.{word}
+use Rattle.ranges.proofs.Words.{word}
 use Rattle.sheet.specs.Storing.{withNumbers}
 use borrow.Author.Needs.{needs}
 use Rattle.sheet.proofs.storing.with_numbers.Statement.{statement}
