@@ -7,7 +7,7 @@ passed=0
 failed=0
 main=crates/board/src/main.rt
 loop=crates/console/src/lib.rt
-stdio=crates/console/src/stdio.rt
+stdio=crates/stdio/src/lib.rt
 
 # The code without its comments and contracts.
 code() { grep -vE '^ *(//|ghost |requires|ensures)' "$@"; }
@@ -25,7 +25,7 @@ expect() {
     fi
 }
 
-# All calls of C stand in stdio.rt: one read, one write, and `io::count`, which makes no call.
+# All calls of C stand in crate stdio: one read, one write, and `io::count`, which makes no call.
 expect 0 'libc::' $main $loop
 expect 0 ' io::' $main $loop
 expect 1 'libc::read(' $stdio

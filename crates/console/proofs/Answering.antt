@@ -23,9 +23,10 @@ use Rattle.program.proofs.Responding.{nothing-left}
 use Rattle.program.proofs.Standing.{reached-fit, standing-called}
 use Rattle.respond.specs.Answering.{Responds}
 use Rattle.respond.specs.declared.Responded.{Responded}
-use Rattle.console.specs.Loop.{Tells, Talks, Due, Says, outRoom, AnswersBlock}
-use Rattle.console.specs.declared.stdio.Input.{Input}
-use Rattle.console.specs.declared.stdio.Handed.{Handed}
+use Rattle.console.specs.Loop.{Says, AnswersBlock}
+use Rattle.stdio.specs.Counts.{Tells, Talks, Due, outRoom}
+use Rattle.stdio.specs.declared.Input.{Input}
+use Rattle.stdio.specs.declared.Handed.{Handed}
 use Rattle.console.specs.declared.Spoken.{Spoken}
 use Rattle.console.specs.declared.Answered.{Answered}
 

@@ -5,11 +5,8 @@
 use mathlib.Core.Path.{_≡_}
 use mathlib.Core.Bool.{Bool, true, false}
 use mathlib.Core.List.{List, []}
-use Prim.Native.Nat.{ℕ, _+_, _*_, _-_, _≤_, min}
-use lib.IntN.{ℤ, pos}
-use lib.Dec.{eqb}
+use Prim.Native.Nat.{ℕ, _+_, _*_, _-_, _≤_}
 use lib.ListN.{length, take, drop}
-use lib.Signed.{ltZ}
 use Rattle.io.specs.Counts.{clamped}
 use Rattle.rules.specs.Samples.{Equipment}
 use Rattle.rules.specs.Text.{hasFeed}
@@ -18,75 +15,17 @@ use Rattle.program.specs.States.{isDone}
 use Rattle.program.specs.Responses.{longest, respondOf}
 use Rattle.program.specs.Standing.{Standing, calledAgain}
 use Rattle.program.specs.declared.State.{State}
-use Rattle.console.specs.declared.stdio.Input.{Input}
-use Rattle.console.specs.declared.stdio.Handed.{Handed}
+use Rattle.stdio.specs.declared.Handed.{Handed}
 use Rattle.console.specs.declared.Spoken.{Spoken}
 use Rattle.console.specs.declared.Answered.{Answered}
 use Rattle.console.specs.declared.RunEnd.{RunEnd}
-
--- ---- reading
+use Rattle.stdio.specs.Counts.{readFailed, outRoom}
 
 -- spec 10.12: the size of the buffer that is read to
 abbrev pub blockRoom : ℕ
 blockRoom = 65536
 
--- spec 10.9: before the first read, 10^12 bytes may be read
-abbrev pub unread : Input
-unread = record { budget = inputEnd; asked = 0; answer = pos 0; bytes = 0 }
-
--- after a read to a place behind which there is this room, to which C answered a: as many bytes were asked for as there is room for and may
--- be read; as many came as C says, and no more than were asked for
-abbrev pub readAfter : Input → ℕ → ℤ → Input
-readAfter i room a =
-    record {
-      budget = i .budget - clamped a (min (i .budget) room);
-      asked = min (i .budget) room;
-      answer = a;
-      bytes = clamped a (min (i .budget) room);
-    }
-
--- spec 10.12: a negative answer is a failure; any other that brings no bytes, where some were asked for, is the input's end
-abbrev pub readFailed : Input → Bool
-readFailed i = ltZ (i .answer) (pos 0)
-
--- a read that went well and brought none: the input has ended, or all 10^12 bytes have come
-abbrev pub endRead : Input → Bool
-endRead i = eqb (i .bytes) 0
-
--- `respond` may be told this of the input's end: the last read went well, and it is the end where that brought none
-pub record Tells (input : Input) (last : Bool) : Type 0 where
-  pub well : readFailed input ≡ false
-  pub is : last ≡ endRead input
-
--- ---- writing
-
--- before the first write
-abbrev pub unsaid : Handed
-unsaid = record { bytes = 0; put = true }
-
--- a session stands at this state with these bytes left; all that it has said is handed over, by the count, and no write failed
-pub record Talks (e : Equipment) (ended : Bool) (q : State) (left : List ℕ) (handed : Handed) : Type 0 where
-  pub stands : Standing e ended q left (handed .bytes)
-  pub well : handed .put ≡ true
-
--- when a read is made: a session talks so with the bytes that wait in the buffer; as many bytes came to it as were read; no whole line waits
--- for its answer (spec 10.12); and no read failed
-pub record Waits (e : Equipment) (q : State) (left : List ℕ) (handed : Handed) (before : Input) : Type 0 where
-  pub talks : Talks e false q left handed
-  pub read : length (talks .stands .input) + before .budget ≡ inputEnd
-  pub unfed : hasFeed left ≡ false
-  pub well : readFailed before ≡ false
-
--- the size of the buffer that each call of `respond` is lent
-abbrev pub outRoom : ℕ
-outRoom = 131072
-
--- when a text is handed to the writing: the last read went well, a session talks so at this state and block, and the text is what a call of
--- `respond` writes for them, told of the input's end where that read brought none
-pub record Due (e : Equipment) (q : State) (block : List ℕ) (input : Input) (before : Handed) (text : List ℕ) : Type 0 where
-  pub well : readFailed input ≡ false
-  pub talks : Talks e (endRead input) q block before
-  pub is : text ≡ respondOf e q block (endRead input) outRoom .text
+-- ---- a call
 
 -- one call of `respond`, and what it wrote handed over; `few` keeps the count below 2^64
 pub record Says (e : Equipment) (q : State) (block : List ℕ) (last : Bool) (before : Handed) (r : Spoken) : Type 0 where

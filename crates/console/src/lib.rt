@@ -6,10 +6,8 @@ ghost use Prim.Native.Nat.{_+_, _*_, _-_, _≤_, _<_};
 ghost use lib.ListN.{length, take, drop};
 ghost use Rattle.rules.specs.Regions.{ourEquipment};
 ghost use Rattle.program.specs.States.{start};
-ghost use Rattle.console.specs.Loop.{blockRoom, outRoom, Talks, Says, AnswersBlock, Runs, Tells};
-
-mod stdio;
-
+ghost use Rattle.console.specs.Loop.{blockRoom, Says, AnswersBlock, Runs};
+ghost use Rattle.stdio.specs.Counts.{outRoom, Talks, Tells};
 use program::State;
 use respond::respond;
 use stdio::Handed;

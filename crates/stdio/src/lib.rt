@@ -6,7 +6,7 @@ ghost use mathlib.Core.Bool.{true, false};
 ghost use Prim.Native.Nat.{_+_, _-_, _≤_, _<_};
 ghost use lib.ListN.{length, take};
 ghost use Rattle.rules.specs.Regions.{ourEquipment};
-ghost use Rattle.console.specs.Loop.{unread, readAfter, readFailed, Waits, unsaid, Due};
+ghost use Rattle.stdio.specs.Counts.{unread, readAfter, readFailed, Waits, unsaid, Due};
 use libc::STDIN_FILENO;
 use libc::STDOUT_FILENO;
 use program::State;

@@ -1,8 +1,8 @@
--- `console::stdio::Input::failed` meets its contract.
+-- `stdio::Input::failed` meets its contract.
 -- Assumes nothing.
 use borrow.Author.Needs.{needs}
-use Rattle.console.proofs.stdio.Input.failed.Statement.{statement}
-use Rattle.console.proofs.stdio.Input.failed.Tie as tie
+use Rattle.stdio.proofs.Input.failed.Statement.{statement}
+use Rattle.stdio.proofs.Input.failed.Tie as tie
 
 returns : tie.Need-returns
 returns c = search needs

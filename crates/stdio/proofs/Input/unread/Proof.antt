@@ -1,8 +1,8 @@
--- `console::stdio::Input::unread` meets its contract.
+-- `stdio::Input::unread` meets its contract.
 -- Assumes nothing.
 use borrow.Author.Needs.{needs}
-use Rattle.console.proofs.stdio.Input.unread.Statement.{statement}
-use Rattle.console.proofs.stdio.Input.unread.Tie as tie
+use Rattle.stdio.proofs.Input.unread.Statement.{statement}
+use Rattle.stdio.proofs.Input.unread.Tie as tie
 
 returns : tie.Need-returns
 returns c = search needs

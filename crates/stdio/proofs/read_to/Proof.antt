@@ -1,4 +1,4 @@
--- `console::stdio::read_to` meets its contract.
+-- `stdio::read_to` meets its contract.
 -- Assumes nothing.
 use mathlib.Core.Path.{_≡_, ap, _∙_}
 use mathlib.Core.List.{List}
@@ -11,11 +11,11 @@ use mir.Syntax.{w64}
 use mir.Val.{toZ, ofZ}
 use borrow.Rule.Slice.PartMut.{same-len-mid, mid-len, take-put}
 use Rattle.io.specs.Counts.{clamped}
-use Rattle.console.specs.Loop.{readAfter}
-use Rattle.console.specs.declared.stdio.Input.{Input}
+use Rattle.stdio.specs.Counts.{readAfter}
+use Rattle.stdio.specs.declared.Input.{Input}
 use borrow.Author.Needs.{needs}
-use Rattle.console.proofs.stdio.read_to.Statement.{statement}
-use Rattle.console.proofs.stdio.read_to.Tie as tie
+use Rattle.stdio.proofs.read_to.Statement.{statement}
+use Rattle.stdio.proofs.read_to.Tie as tie
 
 read-is : (i : Input) (room asked bytes : ℕ) (a : ℤ) → asked ≡ min (i .budget) room → bytes ≡ clamped a asked
     → record { budget = i .budget - bytes; asked = asked; answer = a; bytes = bytes } ≡ readAfter i room a

@@ -1,8 +1,8 @@
--- `console::stdio::Handed::put` meets its contract.
+-- `stdio::Handed::put` meets its contract.
 -- Assumes nothing.
 use borrow.Author.Needs.{needs}
-use Rattle.console.proofs.stdio.Handed.put.Statement.{statement}
-use Rattle.console.proofs.stdio.Handed.put.Tie as tie
+use Rattle.stdio.proofs.Handed.put.Statement.{statement}
+use Rattle.stdio.proofs.Handed.put.Tie as tie
 
 returns : tie.Need-returns
 returns c = search needs
