@@ -202,7 +202,7 @@ struct Reached {
     inputs: usize,
     bytes: usize,
     statuses: [usize; 6],
-    refusals: [usize; 8],
+    refusals: [usize; 21],
     bits: [usize; 9],
     recoveries: [usize; RECOVERIES.len()],
     ramps: [usize; RAMPS.len()],
@@ -235,7 +235,7 @@ impl Reached {
         for (line, sample) in output.split(|&byte| byte == b'\n').filter(|line| !line.is_empty()).zip(samples) {
             let words: Vec<&[u8]> = line.split(|&byte| byte == b' ').collect();
             if words[0] == b"(refused" {
-                self.refusals[usize::from(words[1][0] - b'1')] += 1;
+                self.refusals[number(words[1])] += 1;
                 refused = true;
                 continue;
             }
@@ -276,7 +276,7 @@ impl Reached {
             names.iter().map(|name| name.to_string()).zip(counts.iter().copied()).collect()
         };
         let mut things = named(&board::STATUS_WORDS, &self.statuses);
-        things.extend((1..=8).map(|number| (format!("refused {number}"), self.refusals[number - 1])));
+        things.extend((1..=8).map(|number| (format!("refused {number}"), self.refusals[number])));
         things.extend(named(&BITS, &self.bits).into_iter().map(|(name, count)| (format!("bit {name}"), count)));
         things.extend(RECOVERIES.iter().zip(self.recoveries).map(|((name, _), count)| (format!("recovery {name}"), count)));
         things.extend(RAMPS.iter().zip(self.ramps).map(|((name, _), count)| (name.to_string(), count)));

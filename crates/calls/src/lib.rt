@@ -2,7 +2,6 @@
 // apart, call these and store.
 ghost use mathlib.Core.Path.{_≡_};
 ghost use Rattle.rules.specs.Refusals.{refusalNumber, savedNumber};
-ghost use Rattle.rules.specs.Records.{fresh};
 ghost use Rattle.rules.specs.Images.{saveCheck, savedInto};
 ghost use Rattle.rules.specs.Sheets.{readSheet};
 ghost use Rattle.causes.specs.Calls.{freshReport};

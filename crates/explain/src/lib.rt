@@ -1,6 +1,5 @@
 // Spec 8.5 to 8.8: a step that says, beside its report, which rule held the status and which held the watts. Record and report are those of
-// `service::step::step`, which does not ask. Its public operations are `fresh_answer` and `step::step`; the rest is for `step`, and
-// the numbers are for the faces.
+// `service::step::step`, which does not ask. Its public operations are `fresh_answer` and `step::step`; the rest is for `step`.
 pub mod step;
 
 ghost use mathlib.Core.Path.{_≡_};

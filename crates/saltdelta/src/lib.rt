@@ -6,7 +6,7 @@ ghost use Rattle.rules.specs.Records.{fresh};
 ghost use Rattle.rules.specs.Images.{saveCheck, savedInto};
 ghost use Rattle.causes.specs.Calls.{freshReport};
 ghost use Rattle.carryover.specs.CarryOver.{carryNumber, forwardAnswer, backAnswer, forwardInto, backInto};
-ghost use Rattle.replay.specs.Replays.{replayed, replayedInto};
+ghost use Rattle.replay.specs.Replays.{replayedInto};
 ghost use Rattle.calls.specs.Answers.{sheetAnswer, settingsAfter, recordAfter, reportAfter, stepNumber, replayAnswer, replayReport};
 ghost use Rattle.calls.specs.ExplainedCalls.{explainedFresh, explainedAfter};
 use calls::Explained;
