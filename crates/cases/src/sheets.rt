@@ -2,11 +2,11 @@
 ghost use mathlib.Core.Path.{_≡_};
 ghost use Rattle.rules.specs.Sheets.{readSheet};
 ghost use Rattle.sheet.specs.Parts.{IsPart};
-use crate::show;
 use libc::STDOUT_FILENO;
 use reader::read_sheet;
 use rules::SettingsCheck;
 use rules::refusal_number;
+use shown::show;
 
 // The part that reading hands back: from the caller's bytes to the caller's bytes.
 fn line_of(s: &[u8]) -> &[u8]

@@ -1,4 +1,1 @@
-pub mod States
-pub mod Buffers
-pub mod SheetLines
 pub mod SampleLines

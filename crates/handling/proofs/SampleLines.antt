@@ -27,11 +27,11 @@ use Rattle.program.specs.declared.State.{State}
 use Rattle.program.proofs.Saying.{said-sample}
 use Rattle.program.proofs.Handling.{handled-fed}
 use Rattle.handling.specs.SampleLines.{lineWithout, lineWith, formlessFrom, lineFrom, lineAnswer}
-use Rattle.handling.specs.Carrying.{Stands, Carried, Stuck}
+use Rattle.states.specs.Carrying.{Stands, Carried, Stuck}
 use Rattle.handling.specs.declared.sample_lines.LineAt.{LineAt}
-use Rattle.handling.specs.declared.state.Handled.{Handled}
-use Rattle.handling.proofs.Buffers.{wrote-none, wrote-length}
-use Rattle.handling.proofs.SheetLines.{after-place, next-stands}
+use Rattle.states.specs.declared.Handled.{Handled}
+use Rattle.states.proofs.Buffers.{wrote-none, wrote-length}
+use Rattle.states.proofs.Places.{after-place, next-stands}
 
 -- ---- the line at a place
 

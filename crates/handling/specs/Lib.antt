@@ -1,2 +1,1 @@
 pub mod SampleLines
-pub mod Carrying

@@ -1,4 +1,2 @@
-// Spec 10.13, 10.14: the lines of a block, the sheet's and the samples', one after the other.
+// Spec 10.13, 10.14: the sample lines of a block, one after the other.
 pub mod sample_lines;
-pub mod sheet_lines;
-pub mod state;

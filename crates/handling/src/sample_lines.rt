@@ -14,8 +14,7 @@ ghost use Rattle.buffers.specs.Written.{Wrote};
 ghost use Rattle.program.specs.States.{Fit};
 ghost use Rattle.program.specs.Responses.{lineRoom};
 ghost use Rattle.handling.specs.SampleLines.{lineWithout, formlessFrom, lineFrom, lineAnswer};
-ghost use Rattle.handling.specs.Carrying.{Carried, Stuck};
-use crate::state::Handled;
+ghost use Rattle.states.specs.Carrying.{Carried, Stuck};
 use lines::put_refused;
 use lines::put_report;
 use program::State;
@@ -29,6 +28,7 @@ use rules::Stepped;
 use rules::refusal_number;
 use samples::sample_at;
 use service::step_accepted;
+use states::Handled;
 use text::line_end;
 use text::sample_form;
 

@@ -15,7 +15,7 @@ use Rattle.rules.specs.declared.Settings.{Settings}
 use Rattle.rules.specs.declared.SettingsCheck.{SettingsCheck}
 use Rattle.basics.proofs.Bools.{both}
 use Rattle.formats.specs.Marks.{formAt}
-use Rattle.sheet.specs.Storing.{onLine}
+use Rattle.sheet.specs.LineReads.{onLine}
 use Rattle.program.specs.States.{isDone, readsSheet, stopped, sensible, readState, Fit}
 use Rattle.program.specs.Saying.{Said, lineNumbers, onCheck, said}
 use Rattle.program.specs.declared.State.{State}

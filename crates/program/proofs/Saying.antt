@@ -24,7 +24,7 @@ use Rattle.laws.proofs.Alike.{step-alike}
 use Rattle.formats.specs.Marks.{forms, formAt}
 use Rattle.text.specs.Forms.{longest}
 use Rattle.text.proofs.Made.{too-long}
-use Rattle.sheet.specs.Storing.{onLine}
+use Rattle.sheet.specs.LineReads.{onLine}
 use Rattle.program.specs.States.{isDone, readsSheet, dropping}
 use Rattle.program.specs.Saying.{Said, lineNumbers, onCheck, sheetLine, sampleLine, said, isSome, begunLine, closingText, endText}
 use Rattle.program.specs.declared.State.{State}

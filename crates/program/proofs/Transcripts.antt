@@ -24,7 +24,7 @@ use Rattle.rules.specs.declared.Refusal.the-variants.{Form}
 use Rattle.rules.specs.declared.SettingsCheck.{SettingsCheck}
 use Rattle.rules.specs.declared.Stepped.{Stepped}
 use Rattle.text.proofs.Lines.{line-after}
-use Rattle.sheet.specs.Storing.{lineRead}
+use Rattle.sheet.specs.LineReads.{lineRead}
 use Rattle.sheet.specs.declared.LineRead.{LineRead}
 use Rattle.sheet.proofs.Reading.{from, from-unended, from-end, on-accepted, on-refused}
 use Rattle.program.specs.States.{start, stopped}

@@ -18,7 +18,7 @@ use Rattle.rules.specs.declared.SettingsCheck.{SettingsCheck}
 use Rattle.rules.specs.declared.Answer.{Answer}
 use Rattle.rules.specs.declared.Stepped.{Stepped}
 use Rattle.formats.specs.Marks.{formAt}
-use Rattle.sheet.specs.Storing.{onLine}
+use Rattle.sheet.specs.LineReads.{onLine}
 use Rattle.sheet.specs.declared.LineRead.{LineRead}
 use Rattle.program.specs.States.{isDone, readsSheet, stopped}
 use Rattle.program.specs.declared.State.{State}

@@ -10,8 +10,8 @@ use Rattle.causes.specs.Alike.{Alike}
 use Rattle.program.specs.Saying.{Said, said}
 use Rattle.program.specs.Responses.{handled, stops, andSaid}
 use Rattle.program.proofs.Saying.{said-alike}
-use Rattle.handling.specs.Carrying.{Carried}
-use Rattle.handling.specs.declared.state.Handled.{Handled}
+use Rattle.states.specs.Carrying.{Carried}
+use Rattle.states.specs.declared.Handled.{Handled}
 
 module _ (e f : Equipment) (a : Alike e f) where
   handled-alike : (ends : Bool) (size : ℕ) (h : Said) (ls : List Line) → handled e ends size h ls ≡ handled f ends size h ls

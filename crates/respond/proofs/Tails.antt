@@ -19,10 +19,10 @@ use Rattle.program.specs.Responses.{longest, lineRoom, atTail, handled}
 use Rattle.program.specs.declared.State.{State}
 use Rattle.program.proofs.Saying.{done-end, end-at-sheet, end-at-samples}
 use Rattle.program.proofs.Handling.{handled-unfed, handled-stops}
-use Rattle.handling.specs.Carrying.{Stuck}
+use Rattle.states.specs.Carrying.{Stuck}
 use Rattle.respond.specs.Answering.{Closed}
-use Rattle.handling.specs.declared.state.Handled.{Handled}
-use Rattle.handling.proofs.Buffers.{wrote-none}
+use Rattle.states.specs.declared.Handled.{Handled}
+use Rattle.states.proofs.Buffers.{wrote-none}
 
 -- ---- the text at the input's end
 

@@ -22,12 +22,13 @@ use Rattle.program.specs.declared.State.{State}
 use Rattle.program.proofs.Fitting.{sensible-fit, fit-read}
 use Rattle.program.proofs.Handling.{handled-stops}
 use Rattle.program.proofs.Responding.{nothing-taken}
-use Rattle.handling.specs.Carrying.{checkText, SheetSaid, begun, Carried, Stuck}
+use Rattle.states.specs.Carrying.{checkText, begun, Carried, Stuck}
+use Rattle.sheetlines.specs.SheetSaid.{SheetSaid}
 use Rattle.respond.specs.Answering.{Closed, Responds}
-use Rattle.handling.specs.declared.state.Handled.{Handled}
-use Rattle.handling.specs.declared.sheet_lines.SheetLines.{SheetLines}
+use Rattle.states.specs.declared.Handled.{Handled}
+use Rattle.sheetlines.specs.declared.SheetLines.{SheetLines}
 use Rattle.respond.specs.declared.Responded.{Responded}
-use Rattle.handling.proofs.Buffers.{wrote-none, wrote-length}
+use Rattle.states.proofs.Buffers.{wrote-none, wrote-length}
 
 -- ---- the sheet's lines, written
 

@@ -11,7 +11,7 @@ use Rattle.buffers.specs.Written.{Wrote}
 use Rattle.program.specs.States.{isDone}
 use Rattle.program.specs.Responses.{handled, respondOf}
 use Rattle.program.specs.declared.State.{State}
-use Rattle.handling.specs.declared.state.Handled.{Handled}
+use Rattle.states.specs.declared.Handled.{Handled}
 use Rattle.respond.specs.declared.Responded.{Responded}
 
 -- all that is handled of a block

@@ -3,7 +3,7 @@ ghost use mathlib.Core.Path.{_≡_};
 ghost use Rattle.program.specs.States.{start};
 use program::State;
 use service::fresh;
-use sheet::no_settings;
+use storing::no_settings;
 
 // Before the first byte.
 pub fn start() -> State

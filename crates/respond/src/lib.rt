@@ -7,7 +7,7 @@ ghost use Rattle.rules.specs.Samples.{Equipment};
 ghost use Rattle.rules.specs.Regions.{ourEquipment};
 ghost use Rattle.rules.specs.Text.{hasFeed};
 ghost use Rattle.program.specs.States.{Fit, readsSheet};
-ghost use Rattle.handling.specs.Carrying.{begun, Carried, Stuck};
+ghost use Rattle.states.specs.Carrying.{begun, Carried, Stuck};
 ghost use Rattle.respond.specs.Answering.{Closed, Responds};
 ghost use Rattle.program.specs.Responses.{lineRoom, longest};
 
@@ -16,17 +16,17 @@ mod tail;
 
 pub use begin::start;
 use handling::sample_lines::sample_lines;
-use handling::sheet_lines::sheet_lines;
-use handling::state::Handled;
-use handling::state::either;
-use handling::state::sensible;
-use handling::state::stop;
 use lines::put_refused;
 use program::State;
 use rules::LINE_ROOM;
 use rules::SettingsCheck;
 use rules::refusal_number;
 use sensing::table;
+use sheetlines::sheet_lines;
+use states::Handled;
+use states::either;
+use states::sensible;
+use states::stop;
 use tail::tail;
 
 // What `respond` answers: the next state, how many bytes of the block it took, how many it wrote, and whether all is done.

@@ -7,17 +7,17 @@ ghost use Rattle.rules.specs.Samples.{Equipment};
 ghost use Rattle.buffers.specs.Written.{Wrote};
 ghost use Rattle.program.specs.States.{Fit, dropping};
 ghost use Rattle.program.specs.Saying.{endText};
-ghost use Rattle.handling.specs.Carrying.{Stuck};
+ghost use Rattle.states.specs.Carrying.{Stuck};
 ghost use Rattle.respond.specs.Answering.{Closed};
 ghost use Rattle.program.specs.Responses.{lineRoom};
-use handling::state::Handled;
-use handling::state::either;
-use handling::state::stop;
 use lines::put_refused;
 use program::State;
 use rules::LINE_ROOM;
 use rules::Refusal;
 use rules::refusal_number;
+use states::Handled;
+use states::either;
+use states::stop;
 use text::LONGEST;
 
 // What is written where the input ends with n bytes of a line.

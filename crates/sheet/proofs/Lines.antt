@@ -14,7 +14,8 @@ use Rattle.settings.specs.Lines.{settingsLine, lineFound}
 use Rattle.text.specs.Lines.{numbersRead}
 use Rattle.text.specs.Places.{padded}
 use Rattle.text.specs.declared.Numbers.{Numbers}
-use Rattle.sheet.specs.Storing.{withNumbers, onLine}
+use Rattle.storing.specs.Stores.{withNumbers}
+use Rattle.sheet.specs.LineReads.{onLine}
 use Rattle.sheet.specs.declared.LineRead.{LineRead}
 
 module _ (i : ℕ) (st : Settings) where

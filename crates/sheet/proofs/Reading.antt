@@ -27,7 +27,8 @@ use Rattle.formats.specs.Marks.{forms, formAt}
 use Rattle.text.specs.Places.{padded}
 use borrow.Author.Tests.{lt-ltb, le-ltb}
 use Rattle.text.proofs.Lines.{line-after, line-take}
-use Rattle.sheet.specs.Storing.{withNumbers, onLine, lineRead}
+use Rattle.storing.specs.Stores.{withNumbers}
+use Rattle.sheet.specs.LineReads.{onLine, lineRead}
 use Rattle.sheet.specs.Outcomes.{Gives}
 use Rattle.sheet.specs.declared.LineRead.{LineRead}
 use Rattle.sheet.proofs.Stored.{in-line, one-more, eight-limits}

@@ -18,7 +18,7 @@ use Rattle.formats.specs.Marks.{suits, formAt}
 use Rattle.settings.specs.Lines.{settingsLine}
 use Rattle.settings.proofs.Sheet.{trip-at}
 use Rattle.text.specs.Places.{padded}
-use Rattle.sheet.specs.Storing.{limitIn, withNumbers}
+use Rattle.storing.specs.Stores.{limitIn, withNumbers}
 use Rattle.sheet.proofs.Shapes.{two-numbers, watt-numbers, var-numbers}
 
 -- ---- in its line

@@ -1,3 +1,3 @@
-pub mod Storing
+pub mod LineReads
 pub mod Outcomes
 pub mod Parts

@@ -3,18 +3,15 @@ ghost use mathlib.Core.Path.{_≡_};
 ghost use Prim.Native.Nat.{_+_, _<_, _≤_};
 ghost use lib.ListN.{length};
 ghost use Rattle.rules.specs.Settings.{sheetLines};
-ghost use Rattle.sheet.specs.Storing.{lineRead};
+ghost use Rattle.sheet.specs.LineReads.{lineRead};
 ghost use Rattle.sheet.specs.Outcomes.{SheetGiven};
 ghost use Rattle.sheet.specs.Parts.{IsPart, IsPartFrom};
-
-mod storing;
-
 use rules::Refusal;
 use rules::SHEET_LINES;
 use rules::Settings;
 use rules::SettingsCheck;
 use settings::check_line;
-pub use storing::no_settings;
+use storing::no_settings;
 use storing::with_numbers;
 use text::form_numbers;
 use text::line_end;

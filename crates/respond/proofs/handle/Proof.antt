@@ -3,10 +3,10 @@
 use native.Mathlib.Omega.{arith}
 use denote.Ref.{now}
 use Rattle.rules.specs.Regions.{ourEquipment}
-use Rattle.handling.proofs.Buffers.{wrote-length}
+use Rattle.states.proofs.Buffers.{wrote-length}
 use Rattle.respond.proofs.Tails.{full-stays}
 use Rattle.respond.proofs.Whole.{carried-then, closed-then}
-use Rattle.handling.specs.Carrying.{begun}
+use Rattle.states.specs.Carrying.{begun}
 use borrow.Author.Needs.{needs}
 use Rattle.respond.proofs.handle.Statement.{statement}
 use Rattle.respond.proofs.handle.Tie as tie

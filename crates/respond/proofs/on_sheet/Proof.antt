@@ -2,7 +2,7 @@
 -- Assumes nothing.
 use native.Mathlib.Omega.{arith}
 use denote.Ref.{now}
-use Rattle.handling.proofs.Buffers.{wrote-none}
+use Rattle.states.proofs.Buffers.{wrote-none}
 use Rattle.respond.proofs.Whole.{sheet-carried}
 use borrow.Author.Needs.{needs}
 use Rattle.respond.proofs.on_sheet.Statement.{statement}

@@ -4,7 +4,7 @@ use denote.Ref.{now}
 use borrow.Author.Tests.{not-true, not-false}
 use Rattle.rules.specs.Forms.{numbersOf}
 use Rattle.formats.specs.Marks.{formAt}
-use Rattle.sheet.specs.Storing.{lineRead}
+use Rattle.sheet.specs.LineReads.{lineRead}
 use Rattle.sheet.proofs.Lines.{line-none, line-some}
 use borrow.Author.Needs.{needs}
 use Rattle.sheet.proofs.read_line.Statement.{statement}

@@ -8,7 +8,7 @@ use denote.Ref.{now}
 use Prim.Native.Nat.{_+_, _-_}
 use lib.ListN.{length}
 use Rattle.rules.specs.Regions.{equippedWith}
-use Rattle.handling.proofs.Buffers.{wrote-length}
+use Rattle.states.proofs.Buffers.{wrote-length}
 use Rattle.handling.proofs.SampleLines.{Going, here, beginning, stops, room, next-is, goes-on}
 use borrow.Author.Needs.{needs}
 use Rattle.handling.proofs.sample_lines.sample_lines.Statement.{statement}

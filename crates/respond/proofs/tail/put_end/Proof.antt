@@ -3,7 +3,7 @@
 use mathlib.Core.Path.{sym, _∙_}
 use native.Mathlib.Omega.{arith}
 use denote.Ref.{now}
-use Rattle.handling.proofs.Buffers.{wrote-none}
+use Rattle.states.proofs.Buffers.{wrote-none}
 use Rattle.respond.proofs.Tails.{end-sheet, end-done, end-sample, end-none}
 use borrow.Author.Needs.{needs}
 use Rattle.respond.proofs.tail.put_end.Statement.{statement}
