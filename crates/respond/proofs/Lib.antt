@@ -1,3 +1,2 @@
 pub mod Equipments
-pub mod Tails
 pub mod Whole

@@ -24,7 +24,8 @@ use Rattle.program.proofs.Handling.{handled-stops}
 use Rattle.program.proofs.Responding.{nothing-taken}
 use Rattle.states.specs.Carrying.{checkText, begun, Carried, Stuck}
 use Rattle.sheetlines.specs.SheetSaid.{SheetSaid}
-use Rattle.respond.specs.Answering.{Closed, Responds}
+use Rattle.respond.specs.Answering.{Responds}
+use Rattle.tails.specs.Closed.{Closed}
 use Rattle.states.specs.declared.Handled.{Handled}
 use Rattle.sheetlines.specs.declared.SheetLines.{SheetLines}
 use Rattle.respond.specs.declared.Responded.{Responded}

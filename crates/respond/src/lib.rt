@@ -1,18 +1,18 @@
 // Spec 10.13: the program's answer to a block of input.
 ghost use mathlib.Core.Path.{_≡_};
 ghost use mathlib.Core.Bool.{true, false};
-ghost use Prim.Native.Nat.{_-_, _≤_, min};
+ghost use Prim.Native.Nat.{_-_, _≤_};
 ghost use lib.ListN.{length, drop};
 ghost use Rattle.rules.specs.Samples.{Equipment};
 ghost use Rattle.rules.specs.Regions.{ourEquipment};
 ghost use Rattle.rules.specs.Text.{hasFeed};
 ghost use Rattle.program.specs.States.{Fit, readsSheet};
 ghost use Rattle.states.specs.Carrying.{begun, Carried, Stuck};
-ghost use Rattle.respond.specs.Answering.{Closed, Responds};
+ghost use Rattle.respond.specs.Answering.{Responds};
+ghost use Rattle.tails.specs.Closed.{Closed};
 ghost use Rattle.program.specs.Responses.{lineRoom, longest};
 
 mod begin;
-mod tail;
 
 pub use begin::start;
 use handling::sample_lines::sample_lines;
@@ -27,7 +27,8 @@ use states::Handled;
 use states::either;
 use states::sensible;
 use states::stop;
-use tail::tail;
+use states::within_budget;
+use tails::tail;
 
 // What `respond` answers: the next state, how many bytes of the block it took, how many it wrote, and whether all is done.
 pub struct Responded {
@@ -89,17 +90,6 @@ fn handle(q: State, s: &[u8], ends: bool, out: &mut [u8]) -> Handled
     let a = on_sheet(q, s, out);
     let b = on_samples(a, s, out);
     tail(b, s, ends, out)
-}
-
-// How many of these bytes the budget has room for.
-pub fn within_budget(bytes: usize, budget: u64) -> usize
-    ensures { λ r. ⌜ r ≡ min budget bytes ⌝ }
-{
-    if (bytes as u64) < budget {
-        bytes
-    } else {
-        budget as usize
-    }
 }
 
 // The answer to a block of input, `last` where the input ends with it: as many lines as are there and fit into the lent buffer. A line is

@@ -1,7 +1,7 @@
 // The program's state: how a lent one is read, and where it ends.
 ghost use mathlib.Core.Path.{_≡_};
 ghost use mathlib.Core.Bool.{_||_};
-ghost use Prim.Native.Nat.{_+_, _<_};
+ghost use Prim.Native.Nat.{_+_, _<_, min};
 ghost use Rattle.program.specs.States.{sensible, stopped};
 use program::State;
 use rules::SHEET_LINES;
@@ -54,5 +54,16 @@ pub fn stop(q: State, n: u64) -> State
         taken: q.taken + n,
         settings,
         board,
+    }
+}
+
+// How many of these bytes the budget has room for.
+pub fn within_budget(bytes: usize, budget: u64) -> usize
+    ensures { λ r. ⌜ r ≡ min budget bytes ⌝ }
+{
+    if (bytes as u64) < budget {
+        bytes
+    } else {
+        budget as usize
     }
 }

@@ -10,7 +10,7 @@ ghost use Rattle.stdio.specs.Counts.{unread, readAfter, readFailed, Wait
 use libc::STDIN_FILENO;
 use libc::STDOUT_FILENO;
 use program::State;
-use respond::within_budget;
+use states::within_budget;
 
 // How far the reading is: how many bytes may still be read (spec 10.9), and of the last read how many bytes it asked for, what C
 // answered, and how many bytes came.

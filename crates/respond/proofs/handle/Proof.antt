@@ -4,7 +4,7 @@ use native.Mathlib.Omega.{arith}
 use denote.Ref.{now}
 use Rattle.rules.specs.Regions.{ourEquipment}
 use Rattle.states.proofs.Buffers.{wrote-length}
-use Rattle.respond.proofs.Tails.{full-stays}
+use Rattle.tails.proofs.Ends.{full-stays}
 use Rattle.respond.proofs.Whole.{carried-then, closed-then}
 use Rattle.states.specs.Carrying.{begun}
 use borrow.Author.Needs.{needs}

@@ -1,13 +1,13 @@
--- `respond::tail::put_end` meets its contract.
+-- `tails::put_end` meets its contract.
 -- Assumes nothing.
 use mathlib.Core.Path.{sym, _∙_}
 use native.Mathlib.Omega.{arith}
 use denote.Ref.{now}
 use Rattle.states.proofs.Buffers.{wrote-none}
-use Rattle.respond.proofs.Tails.{end-sheet, end-done, end-sample, end-none}
+use Rattle.tails.proofs.Ends.{end-sheet, end-done, end-sample, end-none}
 use borrow.Author.Needs.{needs}
-use Rattle.respond.proofs.tail.put_end.Statement.{statement}
-use Rattle.respond.proofs.tail.put_end.Tie as tie
+use Rattle.tails.proofs.put_end.Statement.{statement}
+use Rattle.tails.proofs.put_end.Tie as tie
 
 refusal-number-requires : tie.Need-refusal-number-requires
 refusal-number-requires c κs = search needs

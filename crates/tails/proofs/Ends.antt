@@ -20,7 +20,7 @@ use Rattle.program.specs.declared.State.{State}
 use Rattle.program.proofs.Saying.{done-end, end-at-sheet, end-at-samples}
 use Rattle.program.proofs.Handling.{handled-unfed, handled-stops}
 use Rattle.states.specs.Carrying.{Stuck}
-use Rattle.respond.specs.Answering.{Closed}
+use Rattle.tails.specs.Closed.{Closed}
 use Rattle.states.specs.declared.Handled.{Handled}
 use Rattle.states.proofs.Buffers.{wrote-none}
 

@@ -1,12 +1,12 @@
--- `respond::tail::tail` meets its contract.
+-- `tails::tail` meets its contract.
 -- Assumes nothing.
 use mathlib.Core.Path.{sym, _∙_}
 use native.Mathlib.Omega.{arith}
 use denote.Ref.{now}
-use Rattle.respond.proofs.Tails.{done-stays, full-stays, closes, drops, waits}
+use Rattle.tails.proofs.Ends.{done-stays, full-stays, closes, drops, waits}
 use borrow.Author.Needs.{needs}
-use Rattle.respond.proofs.tail.tail.Statement.{statement}
-use Rattle.respond.proofs.tail.tail.Tie as tie
+use Rattle.tails.proofs.tail.Statement.{statement}
+use Rattle.tails.proofs.tail.Tie as tie
 
 returns : tie.Need-returns
 returns c =

@@ -8,7 +8,7 @@ ghost use Rattle.buffers.specs.Written.{Wrote};
 ghost use Rattle.program.specs.States.{Fit, dropping};
 ghost use Rattle.program.specs.Saying.{endText};
 ghost use Rattle.states.specs.Carrying.{Stuck};
-ghost use Rattle.respond.specs.Answering.{Closed};
+ghost use Rattle.tails.specs.Closed.{Closed};
 ghost use Rattle.program.specs.Responses.{lineRoom};
 use lines::put_refused;
 use program::State;
