@@ -25,7 +25,7 @@ use Rattle.laws.proofs.FirstCause.{refuses-rightly}
 use Rattle.laws.proofs.SheetCauses.{sheets-refused-rightly}
 use Rattle.carryover.proofs.Carrying.{refused-rightly}
 use Rattle.replay.specs.Replays.{replayNumber, replayedBy, replayedIntoBy}
-use Rattle.replay.proofs.Answering.{kept, number-first}
+use Rattle.replay.proofs.Answering.{kept, given, number-first}
 use Rattle.replay.proofs.Demanded.{no-samples, buffer-kept}
 use Rattle.calls.specs.Answers.{reportOr, sheetAnswer, settingsAfter, settingsOr, replayAnswerBy, replayReportBy, recordAfterBy, reportAfterBy, stepNumberBy}
 use Rattle.calls.specs.Refuses.{ExportedRefuse}
@@ -95,6 +95,11 @@ module _ (e : Equipment) (st : Settings) (samples buffer : List ℕ) where
   unfolding replayAnswerBy replayedBy replayReportBy
   last-report-kept before h = kept (replayNumber st buffer) _ before h
 
+  last-report-stored : (before : Report) → replayAnswerBy e st samples buffer .number ≡ 0
+      → replayReportBy e before st samples buffer ≡ replayedBy e st samples buffer .report
+  unfolding replayAnswerBy replayedBy replayReportBy
+  last-report-stored before zero = given (replayNumber st buffer) _ before zero
+
   image-kept : 0 < replayAnswerBy e st samples buffer .number → replayedIntoBy e st samples buffer ≡ buffer
   unfolding replayAnswerBy replayedBy
   image-kept h = buffer-kept e st samples buffer h
@@ -112,5 +117,11 @@ exported-refuse e =
       };
       save = record { number = refuses-rightly e .save fresh; buffer-kept = refuses-rightly e .save-keeps };
       carry = refused-rightly;
-      replay = record { number = replay-cause e; none = none-accepted e; report-kept = last-report-kept e; buffer-kept = image-kept e };
+      replay = record {
+        number = replay-cause e;
+        none = none-accepted e;
+        report-kept = last-report-kept e;
+        report-stored = last-report-stored e;
+        buffer-kept = image-kept e;
+      };
     }

@@ -19,7 +19,7 @@ use Rattle.rules.specs.declared.Settings.{Settings}
 use Rattle.causes.specs.FirstCause.{cause, first, settingsCauses, sampleCauses}
 use Rattle.causes.specs.SheetCauses.{FirstCauseAt, lineCause}
 use Rattle.carryover.specs.Carries.{ourForward, ourBack, CarryRefusedRightly}
-use Rattle.replay.specs.Replays.{replayedIntoBy}
+use Rattle.replay.specs.Replays.{replayedBy, replayedIntoBy}
 use Rattle.calls.specs.Answers.{recordAfterBy, reportAfterBy, stepNumberBy, sheetAnswer, settingsAfter, replayAnswerBy, replayReportBy}
 use Rattle.calls.specs.ExplainedCalls.{explainedAfterBy}
 use Rattle.calls.specs.declared.Explained.{Explained}
@@ -53,6 +53,8 @@ pub record ReplayRefuses (e : Equipment) : Type 0 where
   pub none : (st : Settings) (samples buffer : List ℕ) → 0 < replayAnswerBy e st samples buffer .number → replayAnswerBy e st samples buffer .accepted ≡ 0
   pub report-kept : (st : Settings) (samples buffer : List ℕ) (before : Report) → 0 < replayAnswerBy e st samples buffer .number
       → replayReportBy e before st samples buffer ≡ before
+  pub report-stored : (st : Settings) (samples buffer : List ℕ) (before : Report) → replayAnswerBy e st samples buffer .number ≡ 0
+      → replayReportBy e before st samples buffer ≡ replayedBy e st samples buffer .report
   pub buffer-kept : (st : Settings) (samples buffer : List ℕ) → 0 < replayAnswerBy e st samples buffer .number → replayedIntoBy e st samples buffer ≡ buffer
 
 -- all of them, steps and replay with this equipment; `carry` is of `saltdelta_carry_forward` and `saltdelta_carry_back`: the source by 10 and 11, then the target by 9
