@@ -1,4 +1,4 @@
--- `saltdelta::explained_call` meets its contract: the record, the report with its rules and the number of what the step says (`Explaining.antt`).
+-- `calls::explained_call` meets its contract: the record, the report with its rules and the number of what the step says (`Explaining.antt`).
 -- Assumes nothing.
 use Rattle.calls.proofs.Explaining.{reported, refused}
 use borrow.Author.Needs.{needs}

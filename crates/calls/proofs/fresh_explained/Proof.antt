@@ -1,4 +1,4 @@
--- `saltdelta::fresh_explained` meets its contract.
+-- `calls::fresh_explained` meets its contract.
 -- Assumes nothing.
 use mathlib.Core.Path.{ap, _∙_}
 use Rattle.rules.specs.declared.Report.{Report}

@@ -1,4 +1,4 @@
--- `saltdelta::in_numbers` meets its contract.
+-- `calls::in_numbers` meets its contract.
 -- Assumes nothing.
 use mathlib.Core.Path.{refl}
 use borrow.Author.Needs.{needs}

@@ -1,4 +1,4 @@
--- `saltdelta::number_answered` meets its contract: the number of an answer, in 32 bits.
+-- `calls::number_answered` meets its contract: the number of an answer, in 32 bits.
 -- Assumes nothing.
 use borrow.Author.Needs.{needs}
 use Rattle.calls.proofs.number_answered.Statement.{statement}

@@ -1,4 +1,4 @@
--- `saltdelta::number_of` meets its contract: a cause's number fits 32 bits.
+-- `calls::number_of` meets its contract: a cause's number fits 32 bits.
 -- Assumes nothing.
 use mathlib.Core.Path.{subst, sym}
 use Prim.Native.Nat.{ℕ, _<_, _^_}

@@ -1,4 +1,4 @@
--- `saltdelta::replay_call` meets its contract: what the replay says, with its answer apart from its report.
+-- `calls::replay_call` meets its contract: what the replay says, with its answer apart from its report.
 -- Assumes nothing.
 use mathlib.Core.Path.{ap}
 use Rattle.replay.specs.declared.Replayed.{Replayed}

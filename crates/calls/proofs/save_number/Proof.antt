@@ -1,4 +1,4 @@
--- `saltdelta::save_number` meets its contract: the number of what the image's saving says (`Answering.antt`).
+-- `calls::save_number` meets its contract: the number of what the image's saving says (`Answering.antt`).
 -- Assumes nothing.
 use mathlib.Core.Path.{_∙_}
 use Rattle.rules.specs.declared.Saved.{Saved}

@@ -1,4 +1,4 @@
--- `saltdelta::sheet_call` meets its contract: the settings and the answer of what reading the sheet says (`Answering.antt`).
+-- `calls::sheet_call` meets its contract: the settings and the answer of what reading the sheet says (`Answering.antt`).
 -- Assumes nothing.
 use Rattle.sheet.proofs.HandedBack.{handed-back}
 use Rattle.calls.proofs.Answering.{accepted, turned-away}

@@ -1,4 +1,4 @@
--- `saltdelta::step_call` meets its contract: the record, the report and the number of what the step says (`Answering.antt`).
+-- `calls::step_call` meets its contract: the record, the report and the number of what the step says (`Answering.antt`).
 -- Assumes nothing.
 use Rattle.calls.proofs.Answering.{reported, refused}
 use borrow.Author.Needs.{needs}

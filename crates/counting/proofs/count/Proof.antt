@@ -1,4 +1,4 @@
--- `counters::count` meets its contract.
+-- `counting::count` meets its contract.
 -- Assumes nothing.
 use native.Mathlib.Omega.{arith}
 use borrow.Author.Needs.{needs}

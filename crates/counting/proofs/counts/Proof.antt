@@ -1,4 +1,4 @@
--- `counters::counts` meets its contract: each arm has the tests of the arms before it.
+-- `counting::counts` meets its contract: each arm has the tests of the arms before it.
 -- Assumes nothing.
 use borrow.Author.Needs.{needs}
 use borrow.Author.Tests.{lt-ltb, le-ltb}

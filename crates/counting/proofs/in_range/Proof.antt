@@ -1,4 +1,4 @@
--- `counters::in_range` meets its contract: each arm has the tests of the arms before it.
+-- `counting::in_range` meets its contract: each arm has the tests of the arms before it.
 -- Assumes nothing.
 use mathlib.Core.Bool.{and-true}
 use borrow.Author.Needs.{needs}

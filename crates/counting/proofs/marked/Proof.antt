@@ -1,4 +1,4 @@
--- `counters::marked` meets its contract.
+-- `counting::marked` meets its contract.
 -- Assumes nothing.
 use native.Mathlib.Omega.{arith}
 use borrow.Author.Tests.{eq-eqb, ne-eqb}

@@ -1,4 +1,4 @@
--- `counters::top` meets its contract.
+-- `counting::top` meets its contract.
 -- Assumes nothing.
 use native.Mathlib.Omega.{arith}
 use borrow.Author.Tests.{lt-ltb, le-ltb}

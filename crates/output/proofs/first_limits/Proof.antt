@@ -1,4 +1,4 @@
--- `service::powers::first_limits` meets its contract: three limits in the deadband, and one outside it.
+-- `output::first_limits` meets its contract: three limits in the deadband, and one outside it.
 -- Assumes nothing.
 use mathlib.Core.Path.{_≡_, sym, ap, _∙_}
 use Prim.Native.Nat.{min}

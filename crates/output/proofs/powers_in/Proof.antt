@@ -1,4 +1,4 @@
--- `service::powers::powers_in` meets its contract: an accepted sheet's curves rise, and the limits, taken in turn, leave their least
+-- `output::powers_in` meets its contract: an accepted sheet's curves rise, and the limits, taken in turn, leave their least
 -- (`OnReading.antt`).
 -- Assumes nothing.
 use mathlib.Core.Path.{_≡_, sym, _∙_}

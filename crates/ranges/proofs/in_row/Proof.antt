@@ -1,4 +1,4 @@
--- `settings::ranges::in_row` meets its contract, at an arbitrary row: each of the two tests is half of the row's.
+-- `ranges::in_row` meets its contract, at an arbitrary row: each of the two tests is half of the row's.
 -- Assumes nothing.
 use native.Mathlib.Omega.{arith}
 use mir.Syntax.{w64}

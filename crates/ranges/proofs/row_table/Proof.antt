@@ -1,4 +1,4 @@
--- `settings::ranges::row_table` meets its contract: the code's table is the table of allowed values.
+-- `ranges::row_table` meets its contract: the code's table is the table of allowed values.
 -- Assumes nothing.
 use mathlib.Core.Path.{refl}
 use Rattle.rules.specs.Settings.{rows}

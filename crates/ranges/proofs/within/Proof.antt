@@ -1,4 +1,4 @@
--- `settings::ranges::within` meets its contract: the tests are made on the numbers read back from their bits.
+-- `ranges::within` meets its contract: the tests are made on the numbers read back from their bits.
 -- Assumes nothing.
 use mir.Facts.{toZ-ofZ}
 use Rattle.ranges.proofs.within.Statement.{statement}

@@ -1,4 +1,4 @@
--- `service::statuses::gives_power` meets its contract: each arm is a row of the table, and beyond the last there is none.
+-- `serving::gives_power` meets its contract: each arm is a row of the table, and beyond the last there is none.
 -- Assumes nothing.
 use mathlib.Core.Path.{sym}
 use native.Mathlib.Omega.{arith}

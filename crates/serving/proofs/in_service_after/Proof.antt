@@ -1,4 +1,4 @@
--- `service::step::in_service_after` meets its contract: the bits tell whether some limit's is 1, and whether ready is (`Bits.antt`).
+-- `serving::in_service_after` meets its contract: the bits tell whether some limit's is 1, and whether ready is (`Bits.antt`).
 -- Assumes nothing.
 use borrow.Author.Tests.{not-true, not-false}
 use Rattle.serving.proofs.Bits.{no-trip, is-ready}

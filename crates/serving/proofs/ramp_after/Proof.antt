@@ -1,4 +1,4 @@
--- `service::step::ramp_after` meets its contract: each arm has the tests of the arms before it.
+-- `serving::ramp_after` meets its contract: each arm has the tests of the arms before it.
 -- Assumes nothing.
 use mathlib.Core.Path.{_≡_}
 use mathlib.Core.Bool.{Bool, true, false, cond}

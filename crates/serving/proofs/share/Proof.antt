@@ -1,4 +1,4 @@
--- `service::step::share` meets its contract: a full ramp is the whole share.
+-- `serving::share` meets its contract: a full ramp is the whole share.
 -- Assumes nothing.
 use mathlib.Core.Path.{refl, sym, ap, _∙_}
 use Prim.Native.Nat.{ℕ, _*_, _/_}

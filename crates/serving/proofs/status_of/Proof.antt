@@ -1,4 +1,4 @@
--- `service::step::status_of` meets its contract.
+-- `serving::status_of` meets its contract.
 -- Assumes nothing.
 use borrow.Author.Tests.{not-true, not-false}
 use borrow.Author.Needs.{needs}

@@ -1,5 +1,5 @@
 -- `sheetlines::sheet_lines` meets its contract. The loop's invariant: nothing is written yet, and what is said from here on is what was
--- to be said (`SheetLines.antt`).
+-- to be said (`Turns.antt`).
 -- Assumes nothing.
 use native.Mathlib.Omega.{arith}
 use denote.Ref.{now}

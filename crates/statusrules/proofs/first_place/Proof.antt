@@ -1,4 +1,4 @@
--- `explain::status::first_place` meets its contract. The loop's invariant: the place that is sought is the one from here on (`Places.antt`).
+-- `statusrules::first_place` meets its contract. The loop's invariant: the place that is sought is the one from here on (`Places.antt`).
 -- Assumes nothing.
 use mathlib.Core.Path.{_≡_, refl, sym, _∙_}
 use Prim.Native.Nat.{_-_, _≤_}

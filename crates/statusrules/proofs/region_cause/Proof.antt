@@ -1,4 +1,4 @@
--- `explain::status::region_cause` meets its contract: the ranks are compared (`Causes.antt`).
+-- `statusrules::region_cause` meets its contract: the ranks are compared (`Causes.antt`).
 -- Assumes nothing.
 use mathlib.Core.Path.{sym}
 use native.Mathlib.Omega.{arith}

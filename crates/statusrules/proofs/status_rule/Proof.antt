@@ -1,4 +1,4 @@
--- `explain::status::status_rule` meets its contract: each way out is a case of the rule.
+-- `statusrules::status_rule` meets its contract: each way out is a case of the rule.
 -- Assumes nothing.
 use mathlib.Core.Path.{_≡_, refl, ap, _∙_}
 use Prim.Native.Nat.{ℕ}

@@ -1,4 +1,4 @@
--- `sheet::storing::four_points` meets its contract.
+-- `storing::four_points` meets its contract.
 -- Assumes nothing.
 use mir.Syntax.{w32}
 use Rattle.ranges.proofs.Words.{word}

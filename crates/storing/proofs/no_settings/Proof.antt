@@ -1,4 +1,4 @@
--- `sheet::storing::no_settings` meets its contract.
+-- `storing::no_settings` meets its contract.
 -- Assumes nothing.
 use mathlib.Core.Path.{refl}
 use Rattle.rules.specs.Sheets.{settingsOf}

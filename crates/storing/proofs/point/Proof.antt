@@ -1,4 +1,4 @@
--- `sheet::storing::point` meets its contract.
+-- `storing::point` meets its contract.
 -- Assumes nothing.
 use mir.Facts.{toZ-ofZ}
 use borrow.Author.Needs.{needs}

@@ -1,4 +1,4 @@
--- `sheet::storing::two_points` meets its contract.
+-- `storing::two_points` meets its contract.
 -- Assumes nothing.
 use mir.Syntax.{w32}
 use Rattle.ranges.proofs.Words.{word}

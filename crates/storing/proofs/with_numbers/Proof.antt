@@ -1,4 +1,4 @@
--- `sheet::storing::with_numbers` meets its contract: each arm stores the numbers of its own line.
+-- `storing::with_numbers` meets its contract: each arm stores the numbers of its own line.
 -- Assumes nothing.
 use mathlib.Core.Path.{_≡_}
 use native.Mathlib.Omega.{arith}

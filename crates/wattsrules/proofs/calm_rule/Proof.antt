@@ -1,4 +1,4 @@
--- `explain::watts::calm_rule` meets its contract: the limits are tested in their order (`Binding.antt`).
+-- `wattsrules::calm_rule` meets its contract: the limits are tested in their order (`Binding.antt`).
 -- Assumes nothing.
 use mathlib.Core.Path.{_≡_, sym, ap, _∙_}
 use native.Mathlib.Omega.{arith}

@@ -1,4 +1,4 @@
--- `explain::watts::event_rule` meets its contract: droop is tested before the others.
+-- `wattsrules::event_rule` meets its contract: droop is tested before the others.
 -- Assumes nothing.
 use mathlib.Core.Path.{_≡_, sym, ap, _∙_}
 use Prim.Native.Nat.{_<_, min}

@@ -1,4 +1,4 @@
--- `explain::watts::last_rule` meets its contract: the limits are tested in their order (`Binding.antt`).
+-- `wattsrules::last_rule` meets its contract: the limits are tested in their order (`Binding.antt`).
 -- Assumes nothing.
 use mathlib.Core.Path.{_≡_, sym, ap, _∙_}
 use Prim.Native.Nat.{ℕ, _+_, _≤_, min}

@@ -1,4 +1,4 @@
--- `explain::watts::watts_rule` meets its contract: the status where that gives no power, and otherwise by whether the frequency has a side.
+-- `wattsrules::watts_rule` meets its contract: the status where that gives no power, and otherwise by whether the frequency has a side.
 -- Assumes nothing.
 use mathlib.Core.Path.{_≡_, refl, sym, _∙_}
 use mathlib.Core.Bool.{true, false}
