@@ -9,6 +9,7 @@ use borrow.Author.Tests.{ltb-true, ltb-false, not-true}
 use lib.Dec.{ltb}
 use lib.ListN.{length, take, drop, length-append, length-drop}
 use lib.Seq.{take_all, drop-drop}
+use Rattle.std.specs.Prelude.{Option}
 use Rattle.rules.specs.Samples.{Equipment}
 use Rattle.rules.specs.Text.{has_feed}
 use Rattle.basics.proofs.Bools.{both}
@@ -24,8 +25,9 @@ use Rattle.handover.specs.OneCall.{Says}
 use Rattle.handover.specs.declared.Spoken.{Spoken}
 use Rattle.blocks.specs.Blocks.{AnswersBlock}
 use Rattle.stdio.specs.Counts.{Talks, out_room}
+use Rattle.stdio.specs.Moves.{Put}
+use Rattle.stdio.proofs.Moving.{put-none, put-on}
 use Rattle.stdio.specs.declared.Handed.{Handed}
-use Rattle.blocks.specs.declared.Answered.{Answered}
 
 -- the rest of a block, as it is lent
 pub rest-is : (block : List ℕ) (at : ℕ) → take (length block - at) (drop at block) ≡ drop at block
@@ -38,14 +40,15 @@ pub took : (taken : ℕ) (more going : Bool) → more ≡ (going && ltb 0 taken)
 took taken more going e t =
     let z = both going (ltb 0 taken) (sym e ∙ t) in (z.0, omega (arith, ltb-true 0 taken z.1))
 
-module _ (e : Equipment) (q : State) (block : List ℕ) (last : Bool) (before : Handed) where
-  -- where the loop stands
-  pub record Going (state : State) (at : ℕ) (handed : Handed) (going more : Bool) : Type 0 where
+module _ (e : Equipment) (q : State) (block : List ℕ) (last : Bool) (before : Handed) (old : Option (List ℕ)) where
+  -- where the loop stands, with `new` what the writer states to hold
+  pub record Going (new : Option (List ℕ)) (state : State) (at : ℕ) (handed : Handed) (going more : Bool) : Type 0 where
     pub calls : ℕ
     pub text : List ℕ
     pub is : called_again e last out_room calls (record { state = q; left = block; text = [] }) ≡ record { state = state; left = drop at block; text = text }
     pub inside : at ≤ length block
     pub counted : handed.bytes ≡ before.bytes + length text
+    pub put : Put handed.put old new text
     pub few : handed.bytes ≤ before.bytes + out_room * (at + 1)
     pub fewer : more ≡ true → handed.bytes ≤ before.bytes + out_room * at
     pub well : more ≡ true → handed.put ≡ true
@@ -53,7 +56,7 @@ module _ (e : Equipment) (q : State) (block : List ℕ) (last : Bool) (before : 
         → (handed.put ≡ true) × (last ≡ false) × (has_feed (drop at block) ≡ false) × (length (drop at block) ≤ longest)
     pub stops : more ≡ false → going ≡ false → handed.put ≡ true → is_done state ≡ true
 
-  pub first : before.put ≡ true → Going q 0 before true true
+  pub first : before.put ≡ true → Going old q 0 before true true
   unfolding called_again
   first p =
       record {
@@ -62,6 +65,7 @@ module _ (e : Equipment) (q : State) (block : List ℕ) (last : Bool) (before : 
         is = refl;
         inside = omega arith;
         counted = omega arith;
+        put = put-none;
         few = omega arith;
         fewer = λ m. omega arith;
         well = λ m. p;
@@ -69,8 +73,8 @@ module _ (e : Equipment) (q : State) (block : List ℕ) (last : Bool) (before : 
         stops = λ m. absurd (false≢true (sym m));
       }
 
-  module _ (talks : Talks e last q block before) {state : State} {at : ℕ} {handed : Handed} {going more : Bool}
-      (g : Going state at handed going more) (m : more ≡ true) (part : List ℕ) (p : part ≡ drop at block) where
+  module _ (talks : Talks e last q block before) {new : Option (List ℕ)} {state : State} {at : ℕ} {handed : Handed} {going more : Bool}
+      (g : Going new state at handed going more) (m : more ≡ true) (part : List ℕ) (p : part ≡ drop at block) where
     -- where the session stands
     pub talks-here : Talks e last state part handed
     talks-here =
@@ -132,8 +136,8 @@ module _ (e : Equipment) (q : State) (block : List ℕ) (last : Bool) (before : 
             stays : r.taken ≡ 0 → at ≡ at + r.taken
             stays z = omega arith
 
-        pub next : Going r.state (at + r.taken) r.handed g' m'
-        next =
+        pub next : {new' : Option (List ℕ)} → Put r.handed.put new new' said.text → Going new' r.state (at + r.taken) r.handed g' m'
+        next put =
             let short : length part ≡ length block - at = ap length p ∙ length-drop at block in
             let was = g.fewer m in
             record {
@@ -142,6 +146,7 @@ module _ (e : Equipment) (q : State) (block : List ℕ) (last : Bool) (before : 
               is = next-is;
               inside = omega (arith, g.inside, c.inside);
               counted = omega (arith, g.counted, length-append g.text said.text, c.said);
+              put = put-on g.put (g.well m) put;
               few = omega (arith, c.few);
               fewer = λ t. omega (arith, c.few, took r.taken m' g' turns t);
               well = λ t. (on (took r.taken m' g' turns t).0).0;
@@ -151,8 +156,8 @@ module _ (e : Equipment) (q : State) (block : List ℕ) (last : Bool) (before : 
 
   -- ---- the end of the loop
 
-  pub answers : {state : State} {at : ℕ} {handed : Handed} {going more : Bool} → more ≡ false → Going state at handed going more
-      → AnswersBlock e q block last before (record { state = state; at = at; handed = handed; going = going })
+  pub answers : {new : Option (List ℕ)} {state : State} {at : ℕ} {handed : Handed} {going more : Bool} → more ≡ false → Going new state at handed going more
+      → AnswersBlock e q block last before old new (record { state = state; at = at; handed = handed; going = going })
   answers m g =
       record {
         calls = g.calls;
@@ -160,6 +165,7 @@ module _ (e : Equipment) (q : State) (block : List ℕ) (last : Bool) (before : 
         is = g.is;
         inside = g.inside;
         said = g.counted;
+        put = g.put;
         few = g.few;
         well = λ w. (g.waits m w).0;
         coming = λ w. (g.waits m w).1;

@@ -11,4 +11,4 @@ abbrev pub widened : ℤ → ℤ
 widened v = to_z w32 (of_z w32 (to_z w16 (of_z w16 v)))
 
 pub widened_is : (v : ℤ) → SFits w16 v → widened v ≡ v
-widened_is v f = ap (λ (z : ℤ). to_z w32 (of_z w32 z)) (to_z-of_z f) ∙ to_z-of_z (sfits_widen tt f)
+widened_is v f = ap (λ (z : ℤ). to_z w32 (of_z w32 z)) (to_z-of_z f) ∙ to_z-of_z {w = w32} (sfits_widen {w = w16} {w' = w32} {z = v} (tt {0}) f)

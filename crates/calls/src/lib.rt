@@ -1,8 +1,12 @@
 // Saving, carrying over and replay of the library by value: what each answers, in numbers, with what a caller is to be left.
+#![tactic(auto)]
+
 ghost use Rattle.std.specs.Prelude.{◌≡◌};
 ghost use Rattle.carryover.specs.CarryOver.{carry_number};
 ghost use Rattle.replay.specs.Replays.{replayed, replayed_into};
-ghost use Rattle.calls.specs.ImageCalls.{SaveLeaves, ForwardLeaves, BackLeaves};
+ghost use Rattle.rules.specs.Refusals.{saved_number};
+ghost use Rattle.rules.specs.Images.{save_check, saved_into};
+ghost use Rattle.calls.specs.ImageCalls.{ForwardLeaves, BackLeaves};
 ghost use Rattle.calls.specs.ReplayAnswers.{replay_answer};
 
 use carryover::{CarryAnswer, carry_number};
@@ -11,21 +15,21 @@ use rules::{Board, Report, Saved, Settings};
 
 // What a replay answers: 0, or the refusal's number; and how many samples were accepted.
 #[repr(C)]
-#[derive(Drop)]
+#[derive(Clone, Copy)]
 pub struct ReplayAnswer {
     pub number: u32,
     pub accepted: usize,
 }
 
 // The answer of a replay, with the report beside it.
-#[derive(Drop)]
+#[derive(Clone, Copy)]
 pub struct ReplayCall {
     pub report: Report,
     pub answer: ReplayAnswer,
 }
 
 // The number of what carrying an image over answers.
-fn number_answered(answer: CarryAnswer) -> u32
+pub fn number_answered(answer: CarryAnswer) -> u32
     ensures { result ≡ carry_number answer }
 {
     carry_number(answer) as u32
@@ -47,7 +51,7 @@ pub fn back_call(source: &[u8], target: &mut [u8]) -> u32
 
 // A saving by value.
 pub fn save_number(b: Board, out: &mut [u8]) -> u32
-    ensures { SaveLeaves b out.old out.new result }
+    ensures { (result ≡ saved_number (save_check out.old)) × (out.new ≡ saved_into b out.old) }
 {
     match image::save(b, out) {
         Saved::Written => 0,

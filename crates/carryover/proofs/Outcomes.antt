@@ -17,7 +17,6 @@ use Rattle.buffers.specs.Written.{written}
 use Rattle.oldimages.specs.OldImages.{old_length, has_added}
 use Rattle.carryover.specs.CarryOver.{carry_number, carry_answer, forward_answer, back_answer, carried_into, forward_causes, back_causes}
 use Rattle.carryover.specs.declared.CarryAnswer.{CarryAnswer}
-use Rattle.carryover.specs.contracts.CarryAnswer.{the_type}
 
 -- ---- the target
 
@@ -26,9 +25,9 @@ pub front : (image target : List ℕ) → written target 0 image ≡ image ++ dr
 unfolding written
 front image target = rw zero-add
 
--- the code tells an answer from `Written` by its tag
-stays : (a : CarryAnswer) (image target : List ℕ) → OneOf (1 ∷ 2 ∷ 3 ∷ []) (tag_of the_type a) → carried_into a image target ≡ target
-stays CarryAnswer.Written image target k = absurd (miss (1 ∷ 2 ∷ 3 ∷ []) 0 tt k)
+-- an answer that is not `Written` leaves the target
+stays : (a : CarryAnswer) (image target : List ℕ) → (a ≡ CarryAnswer.Written → ⊥) → carried_into a image target ≡ target
+stays CarryAnswer.Written image target k = absurd (k refl)
 stays CarryAnswer.SourceLength image target k = refl
 stays CarryAnswer.AddedBytes image target k = refl
 stays CarryAnswer.TargetLength image target k = refl
@@ -41,7 +40,7 @@ module _ (answer : CarryAnswer) (n : ℕ) (number : carry_number answer ≡ n) (
   into : (a : CarryAnswer) → a ≡ answer → carried_into a image target ≡ carried_into answer image target
   into a e = ap (λ (k : CarryAnswer). carried_into k image target) e
 
-  pub refused : (a : CarryAnswer) → a ≡ answer → OneOf (1 ∷ 2 ∷ 3 ∷ []) (tag_of the_type a) → Promised a target
+  pub refused : (a : CarryAnswer) → a ≡ answer → (a ≡ CarryAnswer.Written → ⊥) → Promised a target
   refused a e k = ((e, sym (stays a image target k) ∙ into a e), ap carry_number e ∙ number)
 
   pub carried : answer ≡ CarryAnswer.Written → (after : List ℕ) → after ≡ image ++ drop (length image) target → Promised CarryAnswer.Written after

@@ -1,4 +1,6 @@
 // Spec 9.5 to 9.8: images carried over from the old firmware, whose images have 45 bytes and end before the recovery count, and back to it.
+#![tactic(auto)]
+
 ghost use Rattle.std.specs.Prelude.{◌≡◌};
 ghost use Rattle.causes.specs.FirstCause.{first};
 ghost use Rattle.carryover.specs.CarryOver.{carry_number, carry_answer, forward_answer, back_answer, forward_into, back_into, forward_causes, back_causes};
@@ -7,7 +9,7 @@ use oldimages::{OLD_LENGTH, copy_old, has_added};
 use rules::{IMAGE_LENGTH, RECOVERY_TOP};
 
 // What carrying an image over answers; `carry_number` of specs/ gives each case its number.
-#[derive(Drop)]
+#[derive(Clone, Copy)]
 pub enum CarryAnswer {
     Written,
     SourceLength,

@@ -1,9 +1,12 @@
 // Executed cases: spec 14.2, 11.1. Each line names a case and what the library gave.
+#![tactic(auto)]
+
 mod sheets;
 
 use rules::{Answer, Board, Saved, Sensed, Settings, refusal_number};
 use sheets::sheets;
 use shown::{sheet, show};
+use std::io;
 
 fn wide16(x: u16) -> u64 {
     x as u64
@@ -71,53 +74,71 @@ fn exporting() -> Board {
     v.board
 }
 
-fn show_bytes(bytes: &[u8]) {
+fn show_bytes(rt: &impl Print, bytes: &[u8]) -> io::Result<()> {
     let mut i = 0;
     while i < bytes.len() {
-        show(b"byte ", wide8(bytes[i]));
+        show(rt, b"byte ", wide8(bytes[i]))?;
         i += 1;
     }
+    Ok(())
 }
 
-fn images() {
+fn images(rt: &impl Print) -> io::Result<()> {
     let b = exporting();
     let mut short = [170u8; 48];
     show(
+        rt,
         b"save into 48 bytes: ",
         saved_number(image::save(b, &mut short)),
-    );
-    show(b"its first byte: ", wide8(short[0]));
+    )?;
+    show(rt, b"its first byte: ", wide8(short[0]))?;
     let mut buffer = [170u8; 50];
     show(
+        rt,
         b"save into 50 bytes: ",
         saved_number(image::save(b, &mut buffer)),
-    );
-    show_bytes(&buffer);
+    )?;
+    show_bytes(rt, &buffer)
 }
 
-fn main() {
-    show(b"code 841: ", volts_of(841));
-    show(b"code 840: ", volts_of(840));
-    show(b"code 4095: ", volts_of(4095));
-    show(b"code 4096: ", volts_of(4096));
+fn main(rt: HostRuntime) -> io::Result<()> {
+    show(&rt, b"code 841: ", volts_of(841))?;
+    show(&rt, b"code 840: ", volts_of(840))?;
+    show(&rt, b"code 4095: ", volts_of(4095))?;
+    show(&rt, b"code 4096: ", volts_of(4096))?;
     let s = sheet();
     show(
+        &rt,
         b"lowest voltage 9170: ",
         first_status(s, 841, 60000, 1, 10000),
-    );
+    )?;
     show(
+        &rt,
         b"lowest voltage 9165: ",
         first_status(s, 840, 60000, 1, 10000),
-    );
+    )?;
     show(
+        &rt,
         b"code above the table: ",
         first_status(s, 4096, 60000, 1, 10000),
-    );
-    show(b"frequency 39999: ", first_status(s, 1000, 39999, 1, 10000));
-    show(b"permission 2: ", first_status(s, 1000, 60000, 2, 10000));
-    show(b"available 10001: ", first_status(s, 1000, 60000, 1, 10001));
-    show(b"fifteen steps above ov2: ", status_above_ov2(15));
-    show(b"sixteen steps above ov2: ", status_above_ov2(16));
-    images();
-    sheets();
+    )?;
+    show(
+        &rt,
+        b"frequency 39999: ",
+        first_status(s, 1000, 39999, 1, 10000),
+    )?;
+    show(
+        &rt,
+        b"permission 2: ",
+        first_status(s, 1000, 60000, 2, 10000),
+    )?;
+    show(
+        &rt,
+        b"available 10001: ",
+        first_status(s, 1000, 60000, 1, 10001),
+    )?;
+    show(&rt, b"fifteen steps above ov2: ", status_above_ov2(15))?;
+    show(&rt, b"sixteen steps above ov2: ", status_above_ov2(16))?;
+    images(&rt)?;
+    sheets(&rt)
 }

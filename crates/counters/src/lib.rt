@@ -1,4 +1,6 @@
 // Spec 6.1 to 6.6: the nine counters and their bits after a sample.
+#![tactic(auto)]
+
 ghost use Rattle.std.specs.Prelude.{◌≡◌, true, []};
 ghost use Rattle.rules.specs.Settings.{settings_accepted};
 ghost use Rattle.rules.specs.Counters.{counted, full};
@@ -12,7 +14,7 @@ use readings::reading::Reading;
 use rules::Settings;
 
 // The counters, and the bits of those passed as one number.
-#[derive(Drop)]
+#[derive(Clone, Copy)]
 pub struct Counters {
     pub n: [u32; 9],
     pub bits: u16,

@@ -1,4 +1,6 @@
 // Spec 6.1 to 6.6: one of the nine counters: whether it counts a reading, its top, one more, and its bit.
+#![tactic(auto)]
+
 ghost use Rattle.std.specs.Prelude.{◌≡◌, cond, suc, ◌+◌, ◌*◌, ◌<◌, min, eqb};
 ghost use Rattle.counting.specs.Counting.{enters, hit_at, top_at};
 

@@ -1,4 +1,6 @@
 // Whole numbers as decimals without padding, each into a lent buffer.
+#![tactic(auto)]
+
 ghost use Rattle.std.specs.Prelude.{◌≡◌, ◌+◌, ◌≤◌, ◌<◌, length};
 ghost use Rattle.rules.specs.Text.{decimal};
 ghost use Rattle.buffers.specs.Written.{Wrote};

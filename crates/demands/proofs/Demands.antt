@@ -315,7 +315,7 @@ pub replay_groups : ReplayGroups
 replay_groups = by-seven
 
 pub code_contracts : CodeContracts
-code_contracts M = contracts-say {M = M}
+code_contracts M 𝓤 𝓛 mem run = contracts-say 𝓛 mem run
 
 pub code_meets_contracts : CodeMeetsContracts
 code_meets_contracts M = code_meets {M = M}

@@ -138,7 +138,7 @@ module _ {M : Type 1} {𝓤 : Ura M} (𝓛 : Logic 𝓤) (mem : Memory → SProp
         (λ κs a r e. Responds our_equipment a.0 a.1.0.now a.1.1.0 a.1.1.1.0.now e.1.1.1.0.now r
         × (((r.taken ≤ length a.1.0.now) × (r.written ≤ length a.1.1.1.0.now))
         × (line_room ≤ length a.1.1.1.0.now → r.done ≡ false → r.taken ≡ 0 → length a.1.0.now ≤ longest)))
-    -- the exported functions
+    -- the functions of `saltdelta`; each export of `saltdelta_c` is one call of that of its name, with the same clauses
     pub exported-fresh : Promises 𝓤 exported-fresh.ended (exported-fresh.clauses 𝓛 mem run) (λ κs a r e. r ≡ fresh)
     pub exported-fresh-report : Promises 𝓤 exported-fresh-report.ended (exported-fresh-report.clauses 𝓛 mem run) (λ κs a r e. r ≡ fresh_report)
     pub exported-read-sheet : Promises 𝓤 exported-read-sheet.ended (exported-read-sheet.clauses 𝓛 mem run)

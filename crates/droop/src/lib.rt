@@ -1,4 +1,6 @@
 // Spec 6.16, 6.17, 7.8: frequency droop. The side of an event, the power that is held in it, and what droop makes of that.
+#![tactic(auto)]
+
 ghost use Rattle.std.specs.Prelude.{◌≡◌, cond, ◌≤◌, min};
 ghost use Rattle.rules.specs.Droop.{no_side, low_side, side_of, side_after, known_side, held_after, ten_thirds, drooped};
 

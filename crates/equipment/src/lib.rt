@@ -1,1 +1,2 @@
 // Our own equipment: that it is sound, and roots that are found quickly; the sheets of the examples. No code.
+#![tactic(auto)]

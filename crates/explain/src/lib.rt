@@ -1,5 +1,7 @@
 // Spec 8.5 to 8.8: a step that says, beside its report, which rule held the status and which held the watts. Record and report are those of
 // `service::step::step`, which does not ask. Its public operations are `fresh_answer` and `step::step`; the rest is for `step`.
+#![tactic(auto)]
+
 pub mod step;
 
 ghost use Rattle.std.specs.Prelude.{◌≡◌};
@@ -9,14 +11,14 @@ use reasons::{StatusRule, WattsRule};
 use rules::{Board, Refusal, Report};
 
 // What a step answers: a report with its two rules, or why there is none.
-#[derive(Drop)]
+#[derive(Clone, Copy)]
 pub enum ExplainedAnswer {
     Reported(Report, StatusRule, WattsRule),
     Refused(Refusal),
 }
 
 // A step's answer, with the record beside it.
-#[derive(Drop)]
+#[derive(Clone, Copy)]
 pub struct ExplainedStep {
     pub board: Board,
     pub answer: ExplainedAnswer,

@@ -1,12 +1,14 @@
 // The fields of a sample line, for the fast reader: the bytes before the first number, and each number with the byte that closes
 // it. There is room in the text for the longest line, so that no byte needs a test of the text's end. What is passed
 // over here, the matcher reads.
+#![tactic(auto)]
+
 ghost use Rattle.std.specs.Prelude.{◌≡◌, true, false, ◌+◌, ◌≤◌, length};
 ghost use Rattle.formats.specs.Marks.{is_mark};
 ghost use Rattle.fastfields.specs.Fast.{FastDigits, FastNumber, FastField, HeadTaken, closing_byte};
 
 // What is found: the place after it, and its value.
-#[derive(Drop)]
+#[derive(Clone, Copy)]
 pub struct Found {
     pub found: bool,
     pub next: usize,

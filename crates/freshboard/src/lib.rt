@@ -1,4 +1,6 @@
 // Spec 5.3, 8.2: the board before any sample.
+#![tactic(auto)]
+
 ghost use Rattle.std.specs.Prelude.{◌≡◌};
 ghost use Rattle.rules.specs.Records.{fresh};
 ghost use Rattle.causes.specs.Calls.{fresh_report};

@@ -43,6 +43,11 @@ says e q block last before d d' n r c inside most h adds =
       done = c.done;
     }
 
+-- what is lent is what `respond` says with a buffer of this size
+pub lent_is : (e : Equipment) (q : State) (block : List ℕ) (last : Bool) (d d' : List ℕ) → length d ≡ out_room
+    → (r : Responded) → Responds e q block last d d' r → take (r.written - 0) d' ≡ (respond_of e q block last out_room).text
+lent_is e q block last d d' n r c = front-is c.written ∙ ap (λ (k : ℕ). (respond_of e q block last k).text) n
+
 pub due : (e : Equipment) (q : State) (block : List ℕ) (last : Bool) (before : Handed) (d d' : List ℕ) → length d ≡ out_room
     → (r : Responded) → Responds e q block last d d' r → Talks e last q block before → (input : Input) → Tells input last
     → Due e q block input before (take (r.written - 0) d')
@@ -50,6 +55,5 @@ due e q block last before d d' n r c talks input told =
     record {
       well = told.well;
       talks = subst (λ (b : Bool). Talks e b q block before) told.is talks;
-      is = front-is c.written ∙ ap (λ (k : ℕ). (respond_of e q block last k).text) n
-          ∙ ap (λ (b : Bool). (respond_of e q block b out_room).text) told.is;
+      is = lent_is e q block last d d' n r c ∙ ap (λ (b : Bool). (respond_of e q block b out_room).text) told.is;
     }

@@ -1,4 +1,6 @@
 // Spec 9: the image of a board record, 49 bytes, high byte first.
+#![tactic(auto)]
+
 ghost use Rattle.std.specs.Prelude.{◌≡◌, [], ◌∷◌, ◌≤◌, ltb, length};
 ghost use Rattle.buffers.specs.Written.{written};
 ghost use Rattle.causes.specs.FirstCause.{cause, first};

@@ -1,4 +1,6 @@
 // Spec 9.1: the fields of an image, each written to its place in a lent buffer, high byte first.
+#![tactic(auto)]
+
 ghost use Rattle.std.specs.Prelude.{◌≡◌, [], ◌∷◌, map, ◌+◌, ◌≤◌, length};
 ghost use Rattle.buffers.specs.Written.{Wrote};
 ghost use Rattle.rules.specs.Images.{field, field_bytes, twos_complement};

@@ -1,4 +1,6 @@
 // Spec 10.4, 10.5: the lines that are written, each into a lent buffer.
+#![tactic(auto)]
+
 ghost use Rattle.std.specs.Prelude.{◌+◌, ◌≤◌, length};
 ghost use Rattle.rules.specs.Transcripts.{line_room, report_line, refused_line};
 ghost use Rattle.buffers.specs.Written.{Wrote};

@@ -1,4 +1,6 @@
 // A form against a text: one matcher for all fourteen.
+#![tactic(auto)]
+
 ghost use Rattle.std.specs.Prelude.{◌≡◌, ◌≤◌, length, drop};
 ghost use Rattle.formats.specs.Marks.{is_mark, marks};
 ghost use Rattle.matching.specs.Forms.{take_form};
@@ -8,7 +10,7 @@ use numerals::marked_at;
 
 // The numbers that stand in the places of a form's marks, followed by zeros, and the place after the form. No form has more
 // than eight numbers.
-#[derive(Drop)]
+#[derive(Clone, Copy)]
 pub struct Match {
     pub found: bool,
     pub next: usize,

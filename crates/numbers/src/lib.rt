@@ -1,4 +1,6 @@
 // Comparisons of two numbers, and the number of a cause, for the parts.
+#![tactic(auto)]
+
 ghost use Rattle.std.specs.Prelude.{◌≡◌, min, max};
 ghost use Rattle.rules.specs.Tests.{within};
 ghost use Rattle.rules.specs.Refusals.{refusal_number};

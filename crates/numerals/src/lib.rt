@@ -1,18 +1,20 @@
 // Spec 3.4: the numbers that stand in a text, read at a place of it.
+#![tactic(auto)]
+
 ghost use Rattle.std.specs.Prelude.{◌≡◌, ◌≤◌, ◌<◌, min, pos, length, drop};
 ghost use Rattle.rules.specs.Text.{take_number, negated};
 ghost use Rattle.formats.specs.Marks.{take_marked};
 ghost use Rattle.numerals.specs.Places.{DigitsAt, NumberAt, no_number};
 
 // The value of a run of digits, and the place after it.
-#[derive(Drop)]
+#[derive(Clone, Copy)]
 pub struct Digits {
     pub value: u32,
     pub next: usize,
 }
 
 // A number and the place after it.
-#[derive(Drop)]
+#[derive(Clone, Copy)]
 pub struct Number {
     pub found: bool,
     pub value: i32,

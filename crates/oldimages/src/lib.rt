@@ -1,4 +1,6 @@
 // Spec 9.5 to 9.7: the bytes that an image of the old firmware has of one of this firmware, and what stands behind them.
+#![tactic(auto)]
+
 ghost use Rattle.std.specs.Prelude.{◌≡◌, ◌≤◌, length, take};
 ghost use Rattle.buffers.specs.Written.{written};
 ghost use Rattle.oldimages.specs.OldImages.{old_length, has_added};

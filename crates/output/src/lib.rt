@@ -1,4 +1,6 @@
 // Spec 7.3 to 7.8: watts and vars.
+#![tactic(auto)]
+
 ghost use Rattle.std.specs.Prelude.{◌≡◌, ◌≤◌, nat_abs};
 ghost use Rattle.rules.specs.Samples.{Slice, Equipment};
 ghost use Rattle.rules.specs.Service.{vars_of, first_limits, left_by, watts_of};
@@ -12,7 +14,7 @@ use recovery::within_recovery;
 use rules::Settings;
 use serving::gives_power;
 
-#[derive(Drop)]
+#[derive(Clone, Copy)]
 pub struct Powers {
     pub watts: u32,
     pub vars: i32,

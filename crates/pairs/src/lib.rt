@@ -1,4 +1,6 @@
 // Settings as the lines of their sheet (spec 3.2), each of one to four pairs of numbers.
+#![tactic(auto)]
+
 ghost use Rattle.std.specs.Prelude.{◌≡◌, ◌<◌, pos};
 ghost use Rattle.rules.specs.Settings.{sheet_lines, pair, point_pair};
 ghost use Rattle.pairs.specs.Pairs.{settings_pair, pairs_in};

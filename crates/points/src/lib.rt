@@ -1,4 +1,6 @@
 // A line's numbers as the points of a curve.
+#![tactic(auto)]
+
 ghost use Rattle.std.specs.Prelude.{◌≡◌, [], ◌∷◌};
 ghost use Rattle.rules.specs.Settings.{pair};
 ghost use Rattle.rules.specs.Sheets.{point_of};

@@ -1,4 +1,6 @@
 // Spec 3.5: the table of allowed values, and the one range check that reads it.
+#![tactic(auto)]
+
 ghost use Rattle.std.specs.Prelude.{◌≡◌, ◌&&◌, map};
 ghost use Rattle.std.specs.Int.Signed.{le_z};
 ghost use Rattle.rules.specs.Settings.{rows, in_row};
@@ -8,14 +10,14 @@ ghost use Rattle.ranges.specs.Pairs.{pair_of};
 use rules::SHEET_LINES;
 
 // Two numbers of a line, wide enough for any that lent settings hold.
-#[derive(Drop)]
+#[derive(Clone, Copy)]
 pub struct Pair {
     pub first: i64,
     pub second: i64,
 }
 
 // Lowest and highest of a line's first number, then of its second, ends included.
-#[derive(Drop)]
+#[derive(Clone, Copy)]
 pub struct Row(pub i64, pub i64, pub i64, pub i64);
 
 // A row a line, in sheet order.

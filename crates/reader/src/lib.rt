@@ -1,4 +1,6 @@
 // The host's sheet reader: spec 3.7 to 3.10.
+#![tactic(auto)]
+
 ghost use Rattle.reader.specs.Reads.{Reads};
 
 use rules::{Settings, SettingsCheck};
@@ -6,7 +8,7 @@ use sheet::{part_from, read};
 
 // What reading a sheet gives: the check, with cause and line where it is refused; the settings, all 0 then; and the caller's own
 // bytes that are handed back, the refused line or what follows an accepted sheet.
-#[derive(Drop)]
+#[derive(Clone, Copy)]
 pub struct SheetRead<'a> {
     pub check: SettingsCheck,
     pub settings: Settings,

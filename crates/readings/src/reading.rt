@@ -11,7 +11,7 @@ use rules::{Refusal, SampleCheck};
 use sensing::volts;
 
 // What the rules read: lowest, highest and sum of the three voltages, frequency, permit service, available power and operator's limit.
-#[derive(Drop)]
+#[derive(Clone, Copy)]
 pub struct Reading {
     pub low: u32,
     pub high: u32,

@@ -1,9 +1,11 @@
 // Spec 8.6, 8.8: the rules that can hold a status and the watts, and their numbers.
+#![tactic(auto)]
+
 ghost use Rattle.std.specs.Prelude.{◌≡◌};
 ghost use Rattle.reasons.specs.Numbers.{status_rule_number, limit_place, watts_rule_number};
 
 // The rule that held a status; `status_rule_number` of specs/ gives each case its number, and `limit_place` its value.
-#[derive(Drop)]
+#[derive(Clone, Copy)]
 pub enum StatusRule {
     Permission,
     TripLimit(u8),
@@ -15,7 +17,7 @@ pub enum StatusRule {
 }
 
 // The rule that held the watts; `watts_rule_number` of specs/ gives each case its number.
-#[derive(Drop)]
+#[derive(Clone, Copy)]
 pub enum WattsRule {
     Status,
     AvailablePower,

@@ -1,4 +1,6 @@
 // Spec 5.6: recorded samples, seven numbers each, stepped one after another on a fresh record.
+#![tactic(auto)]
+
 ghost use Rattle.std.specs.Prelude.{◌≡◌, true, ◌+◌, ◌-◌, ◌≤◌, min, length};
 ghost use Rattle.rules.specs.Settings.{settings_accepted};
 ghost use Rattle.rules.specs.Regions.{equipped_with};
@@ -12,7 +14,7 @@ use service::step_accepted;
 const GROUP_LENGTH: usize = 7;
 
 // After all samples: the record, the last report, and how many were accepted.
-#[derive(Drop)]
+#[derive(Clone, Copy)]
 pub struct Ran {
     pub board: Board,
     pub report: Report,

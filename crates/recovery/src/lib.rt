@@ -1,4 +1,6 @@
 // Spec 6.15, 7.7: the recovery count, by which power comes back after a cessation.
+#![tactic(auto)]
+
 ghost use Rattle.std.specs.Prelude.{◌≡◌, true, ◌≤◌, min};
 ghost use Rattle.rules.specs.Regions.{ceases};
 ghost use Rattle.rules.specs.Service.{recovery_top, recovering, recovery_limit};

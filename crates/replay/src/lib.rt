@@ -1,4 +1,6 @@
 // Spec 5.6: a replay. Lent samples are stepped one after another on a fresh record, under lent settings, and the record's image is saved.
+#![tactic(auto)]
+
 ghost use Rattle.std.specs.Prelude.{◌≡◌, [], ◌∷◌, ◌++◌, ltb, length};
 ghost use Rattle.rules.specs.Regions.{equipped_with};
 ghost use Rattle.rules.specs.Images.{image_length};
@@ -12,7 +14,7 @@ use rules::{IMAGE_LENGTH, Refusal, Report, Settings, SettingsCheck, refusal_numb
 use sensing::table;
 
 // What a replay answers: 0 or the refusal's number, how many samples were accepted, and the last report.
-#[derive(Drop)]
+#[derive(Clone, Copy)]
 pub struct Replayed {
     pub number: u32,
     pub accepted: usize,

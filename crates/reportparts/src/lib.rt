@@ -1,4 +1,6 @@
 // Spec 10.4: the parts of a report line, each into a lent buffer, and the tests whether one is written at once.
+#![tactic(auto)]
+
 ghost use Rattle.std.specs.Prelude.{◌≡◌, ◌+◌, ◌≤◌, length};
 ghost use Rattle.buffers.specs.Written.{Wrote};
 ghost use Rattle.spacednumbers.specs.Rooms.{number_room, long_room};

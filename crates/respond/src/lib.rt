@@ -1,4 +1,6 @@
 // Spec 10.13: the program's answer to a block of input.
+#![tactic(auto)]
+
 ghost use Rattle.std.specs.Prelude.{◌≡◌, false, ◌≤◌, length};
 ghost use Rattle.rules.specs.Regions.{our_equipment};
 ghost use Rattle.respond.specs.Answering.{Responds};
@@ -12,7 +14,7 @@ use stages::handle;
 use states::{either, sensible, stop, within_budget};
 
 // What `respond` answers: the next state, how many bytes of the block it took, how many it wrote, and whether all is done.
-#[derive(Drop)]
+#[derive(Clone, Copy)]
 pub struct Responded {
     pub state: State,
     pub taken: usize,

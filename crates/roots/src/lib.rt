@@ -1,1 +1,2 @@
 // Laws of the voltages and of whole roots, in proofs/. This crate has no code.
+#![tactic(auto)]

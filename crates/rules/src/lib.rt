@@ -1,5 +1,7 @@
 // The declared types of the interface board. What they mean stands in specs/, in the order of docs/SPECIFICATION.md. Those that a C or Rust
 // program lends are laid out as C lays them out.
+#![tactic(auto)]
+
 ghost use Rattle.std.specs.Prelude.{◌≡◌};
 ghost use Rattle.rules.specs.Refusals.{refusal_number};
 
@@ -20,7 +22,7 @@ pub const RECOVERY_TOP: u8 = 40;
 
 // A trip line: a voltage or frequency limit, and its clearing time in steps.
 #[repr(C)]
-#[derive(Drop)]
+#[derive(Clone, Copy)]
 pub struct Limit {
     pub level: u32,
     pub clearing: u32,
@@ -28,7 +30,7 @@ pub struct Limit {
 
 // An enter-service criterion: a range with both ends included.
 #[repr(C)]
-#[derive(Drop)]
+#[derive(Clone, Copy)]
 pub struct Span {
     pub low: u32,
     pub high: u32,
@@ -36,7 +38,7 @@ pub struct Span {
 
 // A point of a volt-var or volt-watt curve.
 #[repr(C)]
-#[derive(Drop)]
+#[derive(Clone, Copy)]
 pub struct Point {
     pub volts: u32,
     pub power: i32,
@@ -44,7 +46,7 @@ pub struct Point {
 
 // A sheet: the eight trip lines in sheet order, the enter-service lines with return wait and ramp length, and the two curves.
 #[repr(C)]
-#[derive(Drop)]
+#[derive(Clone, Copy)]
 pub struct Settings {
     pub trip: [Limit; 8],
     pub volts: Span,
@@ -59,7 +61,7 @@ pub struct Settings {
 // `ramp` is the ramp count, `recovery` the recovery count, `side` that of a droop event, and `held` the power that is held in it. The
 // narrow fields stand where they cost least room.
 #[repr(C)]
-#[derive(Drop)]
+#[derive(Clone, Copy)]
 pub struct Board {
     pub status: u8,
     pub recovery: u8,
@@ -73,7 +75,7 @@ pub struct Board {
 
 // A report. Its nine bits are one number, uv1 highest and ready lowest.
 #[repr(C)]
-#[derive(Drop)]
+#[derive(Clone, Copy)]
 pub struct Report {
     pub status: u8,
     pub recovery: u8,
@@ -86,7 +88,7 @@ pub struct Report {
 }
 
 // The operating regions of ride-through (spec 6.7).
-#[derive(Drop)]
+#[derive(Clone, Copy)]
 pub enum Region {
     Continuous,
     Mandatory,
@@ -95,7 +97,7 @@ pub enum Region {
 }
 
 // The causes for which input is turned away; `refusal_number` of specs/ gives each its number.
-#[derive(Drop)]
+#[derive(Clone, Copy)]
 pub enum Refusal {
     Form,
     Range,
@@ -126,42 +128,42 @@ pub fn refusal_number(cause: Refusal) -> u8
 }
 
 // What checking settings finds: nothing, or the first cause and its sheet line, counted from 1.
-#[derive(Drop)]
+#[derive(Clone, Copy)]
 pub enum SettingsCheck {
     Accepted,
     Refused(Refusal, u8),
 }
 
 // What checking a sample finds.
-#[derive(Drop)]
+#[derive(Clone, Copy)]
 pub enum SampleCheck {
     Accepted,
     Refused(Refusal),
 }
 
 // What a mean-square code gives.
-#[derive(Drop)]
+#[derive(Clone, Copy)]
 pub enum Sensed {
     Volts(u16),
     Refused(Refusal),
 }
 
 // What a step answers.
-#[derive(Drop)]
+#[derive(Clone, Copy)]
 pub enum Answer {
     Reported(Report),
     Refused(Refusal),
 }
 
 // What saving an image answers.
-#[derive(Drop)]
+#[derive(Clone, Copy)]
 pub enum Saved {
     Written,
     Refused(Refusal),
 }
 
 // A step's answer, with the record beside it.
-#[derive(Drop)]
+#[derive(Clone, Copy)]
 pub struct Stepped {
     pub board: Board,
     pub answer: Answer,

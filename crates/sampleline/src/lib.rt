@@ -1,4 +1,6 @@
 // Spec 10.2, 10.3: one sample line of a block: its numbers, what it makes of a board, and the answer written.
+#![tactic(auto)]
+
 ghost use Rattle.std.specs.Prelude.{◌≡◌, false, ◌+◌, ◌≤◌, length, drop};
 ghost use Rattle.rules.specs.Settings.{settings_accepted};
 ghost use Rattle.rules.specs.Samples.{Slice, Equipment};
@@ -17,7 +19,7 @@ use service::step_accepted;
 use text::line_end;
 
 // A line that is ended, the place after its line feed, and its numbers where it has the sample form.
-#[derive(Drop)]
+#[derive(Clone, Copy)]
 pub struct LineAt {
     pub ended: bool,
     pub found: bool,

@@ -1,4 +1,6 @@
 // Spec 10.2: sample lines that stand in a text.
+#![tactic(auto)]
+
 ghost use Rattle.std.specs.Prelude.{◌≡◌, map, ◌≤◌, nat_abs, length, take};
 ghost use Rattle.rules.specs.Forms.{sample_form};
 ghost use Rattle.samples.specs.Lines.{sample_at};
@@ -24,7 +26,7 @@ fn sample_slice(n: [i32; 8]) -> [u32; 7]
 }
 
 // A sample line that stands at a place of a text and is ended there, and the place after its line feed.
-#[derive(Drop)]
+#[derive(Clone, Copy)]
 pub struct SampleAt {
     pub found: bool,
     pub next: usize,

@@ -1,4 +1,6 @@
 // Spec 2: a mean-square code to a voltage.
+#![tactic(auto)]
+
 ghost use Rattle.std.specs.Prelude.{◌≡◌, ◌<◌, length, get_or, [], ◌∷◌, ltb};
 ghost use Rattle.rules.specs.Sensing.{last_code, sensed_by, sensed};
 ghost use Rattle.rules.specs.Regions.{equipped_with};

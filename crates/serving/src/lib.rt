@@ -1,4 +1,6 @@
 // Spec 5.4, 6.10 to 6.14, 7.6: what a status tells, and what a step makes of service, ramp, status and share.
+#![tactic(auto)]
+
 ghost use Rattle.std.specs.Prelude.{◌≡◌, Bool, cond, List, [], ◌∷◌, ◌++◌, ◌*◌, ◌/◌, ◌≤◌, min};
 ghost use Rattle.rules.specs.Tests.{any};
 ghost use Rattle.rules.specs.Regions.{is_continuous};

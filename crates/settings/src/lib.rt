@@ -1,4 +1,6 @@
 // Whether settings keep to the ranges and the strict rise of spec 3.5 and 3.6.
+#![tactic(auto)]
+
 ghost use Rattle.std.specs.Prelude.{◌≡◌, map, ◌<◌, ◌≤◌};
 ghost use Rattle.rules.specs.Tests.{all};
 ghost use Rattle.rules.specs.Settings.{sheet_lines, in_row, rising, settings_check};

@@ -1,4 +1,6 @@
 // Spec 3.7 to 3.10: reading a sheet from lent bytes.
+#![tactic(auto)]
+
 ghost use Rattle.std.specs.Prelude.{◌≡◌, ◌+◌, ◌<◌, ◌≤◌, length};
 ghost use Rattle.rules.specs.Settings.{sheet_lines};
 ghost use Rattle.sheet.specs.LineReads.{line_read};
@@ -11,7 +13,7 @@ use storing::{no_settings, with_numbers};
 use text::{form_numbers, line_end};
 
 // What reading a line gives: the check, and the settings with the line's numbers.
-#[derive(Drop)]
+#[derive(Clone, Copy)]
 pub struct LineRead {
     pub check: SettingsCheck,
     pub settings: Settings,
@@ -46,7 +48,7 @@ pub fn read_line(i: usize, line: &[u8], before: Settings) -> LineRead
 }
 
 // What reading a sheet gives: the check; the settings, all 0 where it is refused; and where the part handed back begins.
-#[derive(Drop)]
+#[derive(Clone, Copy)]
 pub struct SheetOutcome {
     pub check: SettingsCheck,
     pub settings: Settings,

@@ -1,4 +1,6 @@
 // The reading of a sheet by the library, by value: what it answers, in numbers, with the settings that a caller is to be left.
+#![tactic(auto)]
+
 ghost use Rattle.std.specs.Prelude.{◌≡◌};
 ghost use Rattle.rules.specs.Sheets.{read_sheet};
 ghost use Rattle.sheetcalls.specs.SheetAnswers.{sheet_answer};
@@ -9,7 +11,7 @@ use rules::{Settings, SettingsCheck};
 // What reading a sheet answers: 0 and 0, or the refusal's number and its sheet line from 1; and where in the caller's own bytes the part
 // handed back begins, and its length.
 #[repr(C)]
-#[derive(Drop)]
+#[derive(Clone, Copy)]
 pub struct SheetAnswer {
     pub number: u32,
     pub line: u32,
@@ -18,7 +20,7 @@ pub struct SheetAnswer {
 }
 
 // The answer of a sheet, with the settings beside it.
-#[derive(Drop)]
+#[derive(Clone, Copy)]
 pub struct SheetCall {
     pub settings: Settings,
     pub answer: SheetAnswer,

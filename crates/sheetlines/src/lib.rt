@@ -1,4 +1,6 @@
 // The sheet's lines of a block.
+#![tactic(auto)]
+
 ghost use Rattle.std.specs.Prelude.{◌≡◌, ℕ, ◌+◌, ◌<◌, length};
 ghost use Rattle.rules.specs.declared.Refusal.{Refusal};
 ghost use Rattle.rules.specs.declared.SettingsCheck.{SettingsCheck};
@@ -37,7 +39,7 @@ fn stage_after(line: u64) -> u8
 }
 
 // The state after a sheet's line, and what checking the line found.
-#[derive(Drop)]
+#[derive(Clone, Copy)]
 pub struct SheetLine {
     pub state: State,
     pub check: SettingsCheck,
@@ -75,7 +77,7 @@ fn sheet_line(q: State, line: &[u8]) -> SheetLine
 }
 
 // Where the sheet's lines of a block end, and what checking the last of them found.
-#[derive(Drop)]
+#[derive(Clone, Copy)]
 pub struct SheetLines {
     pub state: State,
     pub at: usize,

@@ -1,11 +1,12 @@
 // What the programs of executed cases share: a line that names a case and what it gave, and a sheet.
-use libc::STDOUT_FILENO;
-use rules::{Limit, Point, Settings, Span};
+#![tactic(auto)]
 
-pub fn show(label: &[u8], n: u64) {
-    io::write_all(STDOUT_FILENO, label);
-    io::print_decimal(STDOUT_FILENO, n);
-    io::write_all(STDOUT_FILENO, b"\n");
+use rules::{Limit, Point, Settings, Span};
+use std::io;
+
+pub fn show(rt: &impl Print, label: &[u8], n: u64) -> io::Result<()> {
+    rt.write_all(label)?;
+    println!(rt; "{n}")
 }
 
 // The default sheet with a return wait of 0 steps and a ramp of 100.

@@ -1,4 +1,6 @@
 // The numbers of a line, each after a space, with a minus where negative.
+#![tactic(auto)]
+
 ghost use Rattle.std.specs.Prelude.{◌≡◌, ◌+◌, ◌≤◌, pos, nat_abs, length};
 ghost use Rattle.rules.specs.Text.{signed_decimal};
 ghost use Rattle.rules.specs.Transcripts.{spaced};

@@ -1,4 +1,6 @@
 // Spec 10.13: a block's lines, stage by stage: the sheet's, the samples, and what stands after the last line feed.
+#![tactic(auto)]
+
 ghost use Rattle.std.specs.Prelude.{◌≡◌, true, false, ◌-◌, ◌≤◌, length, drop};
 ghost use Rattle.rules.specs.Samples.{Equipment};
 ghost use Rattle.rules.specs.Regions.{our_equipment};

@@ -1,4 +1,6 @@
 // The program's state: how a lent one is read, and where it ends; and the bytes of a block that are left, moved to the front of its buffer.
+#![tactic(auto)]
+
 ghost use Rattle.std.specs.Prelude.{◌≡◌, ◌&&◌, ◌||◌, [], ◌+◌, ◌-◌, ◌≤◌, ◌<◌, min, ltb, length, take, drop};
 ghost use Rattle.rules.specs.Records.{fresh};
 ghost use Rattle.rules.specs.Sheets.{settings_of};
@@ -10,7 +12,7 @@ use program::State;
 use rules::{Board, SHEET_LINES, Settings};
 
 // A state, the place in a block that it stands at, and how many bytes are written.
-#[derive(Drop)]
+#[derive(Clone, Copy)]
 pub struct Handled {
     pub state: State,
     pub at: usize,

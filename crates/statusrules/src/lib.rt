@@ -1,4 +1,6 @@
 // Spec 8.6, 8.7: the rule that held a status.
+#![tactic(auto)]
+
 ghost use Rattle.std.specs.Prelude.{◌≡◌, Bool, List, [], ◌∷◌, ◌++◌, length};
 ghost use Rattle.rules.specs.Samples.{Slice, Equipment, permitted};
 ghost use Rattle.rules.specs.Regions.{voltage_region, worse};

@@ -1,10 +1,8 @@
 -- Spec 10.9, 10.12: how far reading and writing are, and what stands before each read and each write: a session of `respond`
--- (program/specs/Standing.antt) where the program is. What no contract can say: that what a read leaves in the buffer is the input, and
--- that what is lent to a write is written.
+-- (program/specs/Standing.antt) where the program is. Which bytes a read and a write move stands in Moves.antt.
 -- Assumes nothing.
-use Rattle.std.specs.Prelude.{◌≡◌, Bool, true, false, List, ℕ, ◌+◌, ◌-◌, min, ℤ, pos, eqb, length}
+use Rattle.std.specs.Prelude.{◌≡◌, Bool, true, false, List, ℕ, ◌+◌, ◌-◌, min, ℤ, pos, negsuc, eqb, length}
 use Rattle.std.specs.Int.Signed.{lt_z}
-use Rattle.io.specs.Counts.{clamp_len}
 use Rattle.rules.specs.Samples.{Equipment}
 use Rattle.rules.specs.Text.{has_feed}
 use Rattle.rules.specs.Transcripts.{input_end}
@@ -20,8 +18,13 @@ use Rattle.stdio.specs.declared.Handed.{Handed}
 abbrev pub unread : Input
 unread = record { budget = input_end; asked = 0; answer = pos 0; bytes = 0 }
 
--- after a read to a place behind which there is this room, to which C answered a: as many bytes were asked for as there is room for and may
--- be read; as many came as C says, and no more than were asked for
+-- how many bytes came by a read that was answered so: none where it failed, and else as many as it says, and no more than were asked for
+abbrev pub clamp_len : ℤ → ℕ → ℕ
+clamp_len (pos k) most = min k most
+clamp_len (negsuc k) most = 0
+
+-- after a read to a place behind which there is this room, which was answered a: as many bytes were asked for as there is room for and may
+-- be read; as many came as the answer says, and no more than were asked for
 abbrev pub read_after : Input → ℕ → ℤ → Input
 read_after i room a =
     record {

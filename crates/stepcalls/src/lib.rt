@@ -1,5 +1,7 @@
 // A step of the library by value, with and without the rules that held its report: what it answers, in numbers, with what a caller is to be
 // left. The exported functions take lent memory apart, call these and store.
+#![tactic(auto)]
+
 ghost use Rattle.std.specs.Prelude.{◌≡◌};
 ghost use Rattle.causes.specs.Calls.{fresh_report};
 ghost use Rattle.stepcalls.specs.StepAnswers.{record_after, report_after, step_number};
@@ -12,7 +14,7 @@ use rules::{Answer, Board, Report, Settings};
 
 // A report with the rules that held it, as numbers: the status's rule, the place of the limit that it names or 0, and the watts' rule.
 #[repr(C)]
-#[derive(Drop)]
+#[derive(Clone, Copy)]
 pub struct Explained {
     pub report: Report,
     pub status: u8,
@@ -21,7 +23,7 @@ pub struct Explained {
 }
 
 // The number of a step, with the record and the report beside it.
-#[derive(Drop)]
+#[derive(Clone, Copy)]
 pub struct StepCall {
     pub board: Board,
     pub report: Report,
@@ -29,7 +31,7 @@ pub struct StepCall {
 }
 
 // The same with the rules that held the report.
-#[derive(Drop)]
+#[derive(Clone, Copy)]
 pub struct ExplainedCall {
     pub board: Board,
     pub explained: Explained,

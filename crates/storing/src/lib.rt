@@ -1,4 +1,6 @@
 // A line's numbers stored into settings.
+#![tactic(auto)]
+
 ghost use Rattle.std.specs.Prelude.{◌≡◌, [], ◌<◌};
 ghost use Rattle.rules.specs.Settings.{sheet_lines};
 ghost use Rattle.rules.specs.Sheets.{settings_of};

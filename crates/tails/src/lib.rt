@@ -1,4 +1,6 @@
 // What stands after the last line feed of a block.
+#![tactic(auto)]
+
 ghost use Rattle.std.specs.Prelude.{◌≡◌, List, ℕ, ◌+◌, ◌-◌, ◌≤◌, ◌<◌, length};
 ghost use Rattle.rules.specs.Samples.{Equipment};
 ghost use Rattle.buffers.specs.Written.{Wrote};

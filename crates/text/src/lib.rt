@@ -1,4 +1,6 @@
 // Spec 3.1, 3.2, 3.4, 10.2: lines, their forms, and the numbers in them.
+#![tactic(auto)]
+
 ghost use Rattle.std.specs.Prelude.{◌≡◌, ◌+◌, ◌≤◌, ◌<◌, ltb, nat_abs, length, drop};
 ghost use Rattle.rules.specs.Text.{first_line, has_feed};
 ghost use Rattle.rules.specs.Forms.{numbers_of};
@@ -44,7 +46,7 @@ fn form_at(form: usize, s: &[u8], at: usize) -> Match
 }
 
 // The numbers of a line that has its form, followed by zeros; all 0 where it has not.
-#[derive(Drop)]
+#[derive(Clone, Copy)]
 pub struct Numbers {
     pub found: bool,
     pub n: [i32; 8],

@@ -8,7 +8,7 @@ use native.Mathlib.Numerals.{add-one-le, add-one-dec}
 use mathlib.Core.WellFounded.InvImage
 use mathlib.Core.WellFounded.{WellFounded}
 use lib.WfN.{lt-wf_rel}
-use mir.Syntax.{Body, skip, seq, assign, block, loop, cond, switch, exit, return, call}
+use mir.Syntax.{Body, skip, seq, assign, block, loop, cond, switch, exit, return, unreachable, call, call_v, lend_static}
 use lib.Dec.{T, ltb, ltb→lt}
 
 abbrev pub Upto : ℕ → Type 0
@@ -40,3 +40,6 @@ rest (switch c m) = skip
 rest (exit n) = skip
 rest return = skip
 rest (call f xs d) = skip
+rest (call_v f i xs d) = skip
+rest (lend_static p s o) = skip
+rest unreachable = skip

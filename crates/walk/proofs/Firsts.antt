@@ -1,7 +1,7 @@
 -- Laws of `specs/First.antt`, as a loop over the places of a slice uses them: its start (`none`), one more place (`inside`), and its end at
 -- the limit or at the list's end (`ends`).
 -- Assumes nothing.
-use mathlib.Core.Path.{◌≡◌, refl, sym, ap, subst, ◌∙◌}
+use mathlib.Core.Path.{◌≡◌, refl, sym, ap, ◌∙◌}
 use Prim.Native.Nat.{ℕ, zero, suc, ◌+◌, ◌*◌, ◌≤◌, ◌<◌, min, zero-le}
 use native.Mathlib.Nat.{le_antisymm, lt_of_le_of_lt, mul-le-mul_right, add_assoc, add-zero, zero-add, min-zero, zero-min, suc-min-suc, le_of_suc-le-suc, not-suc-le-zero}
 use native.Mathlib.Numerals.{add-one}

@@ -10,15 +10,15 @@ use mathlib.Core.Path.{◌≡◌, refl, sym, ap}
 use Prim.Native.Nat.{ℕ, suc}
 use mathlib.Core.List.{List, [], ◌∷◌}
 use seplogic.Ra.Ura.{Ura}
-use seplogic.Ra.TreeShare.{full_share}
+use base.Fraction.{full_share}
 use mir.Syntax.{Ty, erased, place, deref, Opd as Operand, copy, rv_opd, Body as Code, seq, assign}
 use mir.Val.{Val, vptr}
 use base.Fml.{Lft, Share, Fml, flft}
 use prog.Wp.{Env, Calls, Loops}
 use types.Logic.{Logic}
-use types.Kit.{Goal, Post, runs, ◌$◌, Step, step, Item, nth, put, ‵, ◌⊛◌, Seq, move, use1, split, rewrite, fsplit3, fjoin3, feq_i, drop}
+use types.Kit.{Goal, Post, runs, ◌$◌, Step, step, Item, nth, put, ‵, ◌⊛◌, Seq, move, use1, split, rewrite, fsplit, fjoin, fsplit3, fjoin3, feq_i, drop}
 use types.Run.{Opd, look, look_raw, init, store_raw, stop, hop, from, load, of_opd, assigns}
-use denote.RattleType.{RattleType}
+use denote.RattleType.{RattleType, RowLaws}
 use denote.Ref.{Bor, MutBor, MutRef, ShrRef, shr_vals, mut_vals, at_last}
 use denote.Slice.{ShrSlice, shr_slice_vals, shr_slice_copy}
 use Rattle.walk.proofs.Locals.{ty_at, full, gap}
@@ -59,30 +59,30 @@ module _ {M : Type 1} {𝓤 : Ura M} {𝓛 : Logic 𝓤} {K : Type 0} {Γ : List
 module _ {M : Type 1} {𝓤 : Ura M} {𝓛 : Logic 𝓤} {K : Type 0} {Γ : List (Item 𝓤)} where
   open 𝓛 use {H}
 
-  pub slice-twice : K → (R : RattleType) (κ : Lft) (p : Bor (List R.Denot)) {G : Goal 𝓤 H}
+  pub slice-twice : K → (R : RattleType) → RowLaws R → (κ : Lft) (p : Bor (List R.Denot)) {G : Goal 𝓤 H}
       → Step K 𝓛 (‵ (slice-owns R κ p) ∷ ‵ (slice-owns R κ p) ∷ Γ) G (‵ (slice-owns R κ p) ∷ Γ) G
-  slice-twice t R κ p = step (λ s.
-      use1 𝓛 (‵ (slice-owns R κ p) ⊛ ‵ (slice-owns R κ p)) ((shr_slice_copy 𝓛 erased κ R).twice p (shr_slice_vals p)) $ split t $ s)
+  slice-twice t R laws κ p = step (λ s.
+      use1 𝓛 (‵ (slice-owns R κ p) ⊛ ‵ (slice-owns R κ p)) ((shr_slice_copy 𝓛 erased κ R laws).twice p (shr_slice_vals p)) $ split t $ s)
 
   module _ {E : Env 𝓤 H} {C : Calls 𝓤 H} {Λ : Loops 𝓤 H} {post : Post 𝓤 H} {rest : Code} {i : ℕ} {τ : Ty} where
-    pub takes-mut : K → (R : Whole) {κ : Lft} {q : Share} (p : Bor R.row.Denot) {j : ℕ}
+    pub takes-mut : K → (R : Whole) {κ : Lft} {q : Share} (p : MutBor R.row.Denot) {j : ℕ}
         → (n : ℕ) → nth 𝓛 n Γ ≡ full E i (vptr p.ref_ptr.0 p.ref_ptr.1) → (m : ℕ) → nth 𝓛 m Γ ≡ gap E j → ty R ≡ τ → ty R ≡ ty_at E j
         → (Known R p.now → Seq K 𝓛 (‵ (mut-owns R κ p) ∷ ‵ (flft κ q) ∷ put 𝓛 m (full E j (R.val p.now)) Γ) (runs C Λ E rest post))
         → Seq K 𝓛 (‵ (mut-owns R κ p) ∷ ‵ (flft κ q) ∷ Γ) (runs C Λ E (seq (assign (place j []) (rv_opd (copy (place i (deref τ ∷ []))))) rest) post)
     takes-mut t R p n at_n m at-m e e' k =
         fsplit3 t $ drop t $ opens-whole t tt R {h = p.now} p.ref_ptr.0 p.ref_ptr.1 (λ g.
         copies t R full_share p.now p.ref_ptr.0 p.ref_ptr.1 g (suc (suc (suc n))) at_n (suc (suc (suc m))) at-m e e' $
-        closes-whole t tt R p.now p.ref_ptr.0 p.ref_ptr.1 g $ feq_i t (List Val) (shr_vals p) (shr_vals p) refl $ fjoin3 t $ k g)
+        closes-whole t tt R p.now p.ref_ptr.0 p.ref_ptr.1 g $ feq_i t (List Val) (mut_vals p) (mut_vals p) refl $ fjoin3 t $ k g)
 
     pub takes-shr : K → (R : Whole) {κ : Lft} {q : Share} (p : Bor R.row.Denot) {j : ℕ}
         → (n : ℕ) → nth 𝓛 n Γ ≡ full E i (vptr p.ref_ptr.0 p.ref_ptr.1) → (m : ℕ) → nth 𝓛 m Γ ≡ gap E j → ty R ≡ τ → ty R ≡ ty_at E j
         → (Known R p.now → Seq K 𝓛 (‵ (shr-owns R κ p) ∷ ‵ (flft κ q) ∷ put 𝓛 m (full E j (R.val p.now)) Γ) (runs C Λ E rest post))
         → Seq K 𝓛 (‵ (shr-owns R κ p) ∷ ‵ (flft κ q) ∷ Γ) (runs C Λ E (seq (assign (place j []) (rv_opd (copy (place i (deref τ ∷ []))))) rest) post)
     takes-shr t R p n at_n m at-m e e' k =
-        fsplit3 t $ drop t $ move t (1 ∷ 2 ∷ []) $ looks-whole t tt R p.now p.ref_ptr.0 p.ref_ptr.1 (λ share g.
-        copies t R share p.now p.ref_ptr.0 p.ref_ptr.1 g (suc (suc (suc n))) at_n (suc (suc (suc m))) at-m e e' $
+        fsplit t $ drop t $ looks-whole t tt R p.now p.ref_ptr.0 p.ref_ptr.1 (λ share g.
+        copies t R share p.now p.ref_ptr.0 p.ref_ptr.1 g (suc (suc n)) at_n (suc (suc m)) at-m e e' $
         shuts-whole t tt R share p.now p.ref_ptr.0 p.ref_ptr.1 g $
-        move t (2 ∷ 1 ∷ 0 ∷ []) $ feq_i t (List Val) (shr_vals p) (shr_vals p) refl $ fjoin3 t $ k g)
+        move t (1 ∷ 0 ∷ []) $ feq_i t (List Val) (shr_vals p) (shr_vals p) refl $ fjoin t $ k g)
 
     pub puts-mut : K → (R : Whole) {κ : Lft} {q : Share} (p : MutBor R.row.Denot) (h : R.row.Denot) → Known R h → {x : Operand}
         → (n : ℕ) → nth 𝓛 n Γ ≡ full E i (vptr p.ref_ptr.0 p.ref_ptr.1) → ty R ≡ τ → Opd K 𝓛 Γ E x (R.val h)

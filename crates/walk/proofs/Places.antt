@@ -8,7 +8,7 @@ pub use mathlib.Core.Path.{sym, ap, subst}
 pub use Prim.Native.Nat.{◌<◌, ◌≤◌, ◌^◌, ◌*◌}
 pub use lib.ListN.{get_or, set, length-set}
 pub use lib.Dec.{leb, leb→le, nleb→lt}
-pub use seplogic.Ra.TreeShare.{full_share}
+pub use base.Fraction.{full_share}
 pub use mir.Syntax.{Ty, mut, imm, ty_int, ty_bool, ty_ref, ty_ptr, w8, w16, w32, w64}
 pub use mir.Val.{vint}
 pub use base.Logic.{snd∗, ex_e}
@@ -32,7 +32,7 @@ pub use denote.Steps.{owned, peeks, facts, heard}
 pub use denote.Triple.Call.{calls_at}
 pub use denote.Triple.Walked.{stay_slice, stay_none, Goes-slice, Goes-none, walked, walk_Meets}
 pub use denote.Triple.Clauses.{ensured}
-use Rattle.walk.proofs.Whole.{Whole, Known, have}
+use Rattle.walk.proofs.Whole.{Whole, Known}
 use mathlib.Core.Path.{◌≡◌}
 use Prim.Native.Nat.{ℕ}
 use mathlib.Core.List.{List, [], ◌∷◌}
@@ -40,15 +40,15 @@ use lib.ListN.{length}
 use seplogic.Ra.Ura.{Ura}
 use mir.Syntax.{Lifetime}
 use mir.Val.{Val}
-use base.Fml.{Lft, Share, flft, fauth, fobor}
+use base.Fml.{Lft, Share, flft, fauth, fobor, fhide}
 use types.Logic.{Logic}
 use types.Kit.{Goal, Soaks, ◌$◌, Step, step, Item, ‵, Seq, move, fjoin, drop}
-use types.Share.{arr_parts}
 use denote.RattleType.{RattleType}
 use denote.Laws.{Is}
 use denote.Memory.{cell_at, shares}
-use denote.Slice.{MutSlice, slice_val}
-use denote.Index.{place, others, elem_out, elem_back, elem_put, opens_slice, closes_slice, looks_slice, shuts_slice}
+use denote.Opens.{Shut}
+use denote.Slice.{MutSlice, slice_val, elements_shared}
+use denote.Index.{row, place, others, elem_out, elem_back, elem_put, opens_slice, closes_slice, looks_slice, shuts_slice}
 
 abbrev pub gap : {M : Type 1} {𝓤 : Ura M} → Ty → ℕ → List (Item 𝓤) → List (Item 𝓤)
 gap τ l Γ = ‵ (froom τ l 0) ∷ ‵ (fdies τ l) ∷ Γ
@@ -73,15 +73,15 @@ module _ {M : Type 1} {𝓤 : Ura M} {𝓛 : Logic 𝓤} {K : Type 0} {Γ : List
 
   pub looks-at : K → Soaks G → (R : Whole) {κ : Lft} {q : Share} (ys : List R.row.Denot) (i : ℕ) (d : R.row.Denot) (b o : ℕ) → i < length ys
       → ((p : Share) → Known R (get_or ys i d) → Seq K 𝓛 (‵ (cell_at p R.row.mir (R.val (get_or ys i d) ∷ []) b (place (mem R.row).size o i)) ∷ ‵ (others (shares R.row) p ys i b o)
-      ∷ ‵ (fobor κ q ((arr_parts (shares R.row) (length ys)).part p ys b o)) ∷ ‵ (fshr_bor κ (λ s. (arr_parts (shares R.row) (length ys)).part s ys b o)) ∷ Γ) G)
-      → Seq K 𝓛 (‵ (fshr_bor κ (λ s. (arr_parts (shares R.row) (length ys)).part s ys b o)) ∷ ‵ (flft κ q) ∷ Γ) G
+      ∷ Shut 𝓛 κ q (row R.row p ys b o) ∷ ‵ (fhide (elements_shared R.row ys b o κ)) ∷ Γ) G)
+      → Seq K 𝓛 (‵ (fhide (elements_shared R.row ys b o κ)) ∷ ‵ (flft κ q) ∷ Γ) G
   looks-at t z R ys i d b o l k =
-      looks_slice t z R.row (Is R.row) (shows 𝓛 R.row) (λ x. R.val x ∷ []) R.tells (R.copy 𝓛) ys b o (λ p.
+      looks_slice t z R.row (R.copied 𝓛) ys b o (λ p.
       elem_out t R.row (Is R.row) (shows 𝓛 R.row) (λ x. R.val x ∷ []) R.tells p ys i d b o l (λ g. move t (1 ∷ []) $ drop t $ k p g))
 
   pub shuts-at : K → Soaks G → (R : Whole) {κ : Lft} {q : Share} (p : Share) (ys : List R.row.Denot) (i : ℕ) (d : R.row.Denot) (b o : ℕ) → i < length ys → Known R (get_or ys i d)
       → Step K 𝓛 (‵ (flft κ q) ∷ Γ) G (‵ (cell_at p R.row.mir (R.val (get_or ys i d) ∷ []) b (place (mem R.row).size o i)) ∷ ‵ (others (shares R.row) p ys i b o)
-      ∷ ‵ (fobor κ q ((arr_parts (shares R.row) (length ys)).part p ys b o)) ∷ Γ) G
+      ∷ Shut 𝓛 κ q (row R.row p ys b o) ∷ Γ) G
   shuts-at t z R p ys i d b o l g = step (λ s. owned t R.row (Is R.row) (R.makes 𝓛) (get_or ys i d) _ g $ move t (1 ∷ 0 ∷ []) $ elem_back t R.row p ys i d (R.val (get_or ys i d) ∷ []) b o l $ shuts_slice t z R.row p ys b o $ s)
 
   pub owns-slice : K → (R : RattleType) (ℓ : Lifetime) (κ : Lft) {γ : GName} (b o : ℕ) (ys zs : List R.Denot) → length zs ≡ length ys → Room R (length ys)

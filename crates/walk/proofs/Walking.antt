@@ -20,11 +20,12 @@ pub use sound.WpLaws.{FmC, fm_of}
 pub use seplogic.Ra.Ura.{Ura}
 pub use base.Logic.{SProp, ent, sep, emp, via, fst∗, id⊢}
 pub use base.Fml.{Lft, Share, Fml, ftrue, flft}
-pub use ghost.Atoms.{Atoms, sem}
+pub use ghost.Atoms.{Atoms}
+pub use types.Logic.{sem}
 pub use contract.Monad.{Fun}
-pub use contract.Running.{given_of, tables}
+pub use contract.Running.{tables}
 -- the calculus, and the steps of code
-pub use types.Kit.{Given, Item, Sq, runs, at_ret, ‵, raw, ◌⊛◌, ⋆, ◌$◌, ◌∵◌, !, qed, by, move, drop, use1, use2, split, join}
+pub use types.Kit.{Item, Sq, runs, at_ret, ‵, raw, ◌⊛◌, ⋆, ◌$◌, ◌∵◌, !, qed, by, move, drop, use1, use2, split, join}
 pub use types.Kit.{fsplit, fjoin, feq_l, suffices, frame, done}
 pub use types.Run.{look, init, stop, hop, fld, from, load, lit, bin, addr, of_opd, and_then, no_more, land, assigns}
 pub use types.Run.{first, branches, skips, exec, returns, returns_within, enter, alloc1, alloc0, params1, pass1, pass0, free0}

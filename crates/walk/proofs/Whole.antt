@@ -12,14 +12,14 @@ use mathlib.Core.Path.{◌≡◌, refl, sym, ap, subst, ◌∙◌}
 use Prim.Native.Nat.{ℕ}
 use mathlib.Core.List.{List, [], ◌∷◌}
 use seplogic.Ra.Ura.{Ura}
-use seplogic.Ra.TreeShare.{full_share}
+use base.Fraction.{full_share}
 use lib.Dec.{T}
-use mir.Syntax.{Ty, Width, Name, Place, place, Opd as Operand, Body as Code, seq, call}
+use mir.Syntax.{Ty, Width, Callee, Place, place, Opd as Operand, Body as Code, seq, call}
 use mir.Raw.{raw as raw_ty}
 use mir.Val.{Val, vint, has_ty, WT}
 use base.Logic.{SProp, ent, sep, id⊢, fst∗, snd∗}
 use base.Stored.{Gv}
-use base.Fml.{Lft, GName, Share, Fml, flft, fobs, fauth, fbor, fobor, fshr_bor, fat, froom, fdies}
+use base.Fml.{Lft, GName, Share, Fml, flft, fobs, fauth, fbor, fobor, fat, froom, fdies}
 use prog.Wp.{Env, Calls, Loops, spot_of}
 use sound.WpLaws.{FmC}
 use types.Logic.{Logic}
@@ -29,9 +29,11 @@ use types.Kit.{move, use1, split, pick, await}
 use types.Run.{Opds, init, stop, from, land, forget, free1}
 use types.SemTy.{Body}
 use denote.RattleType.{RattleType}
-use denote.Laws.{Is, Typed, Tells, Makes, Lawful, Copy, shows}
-use denote.Memory.{cell_at, part_at, mem, lone}
-use denote.Plain.{UInt, uint_Tells, uint_Makes, uint_Lawful, uint_copy}
+use denote.Laws.{Is, Typed, Tells, Makes, Lawful, shows}
+use denote.Copied.{Copied, uint_Copied}
+use denote.Opens.{Shut}
+use denote.Memory.{cell_at, part_at, hidden_shr, mem, lone}
+use denote.Plain.{UInt, uint_Tells, uint_Makes, uint_Lawful}
 use denote.Steps.{opens, closes, looks, shuts, owned, facts, heard, only}
 use denote.Struct.Steps.{spelt}
 use denote.Triple.Statement.{Contract, Triple}
@@ -51,7 +53,7 @@ pub record Whole : Type 2 where
   pub tells : Tells row (Is row) (λ x. val x ∷ [])
   pub makes : {M : Type 1} {𝓤 : Ura M} (𝓛 : Logic 𝓤) → Makes 𝓛 row (Is row)
   pub lawful : {M : Type 1} {𝓤 : Ura M} (𝓛 : Logic 𝓤) → Lawful 𝓛 row
-  pub copy : {M : Type 1} {𝓤 : Ura M} (𝓛 : Logic 𝓤) → Copy 𝓛 row
+  pub copied : {M : Type 1} {𝓤 : Ura M} (𝓛 : Logic 𝓤) → Copied 𝓛 row
 
 abbrev pub of_struct : (T : SD.Declared) → LL.Laws T → Plains (SD.fields T) → LL.Copyables T.parts → Whole
 of_struct T L P C = record {
@@ -61,7 +63,7 @@ of_struct T L P C = record {
   tells = LL.tells T L;
   makes = λ 𝓛. LL.makes T P 𝓛;
   lawful = λ 𝓛. LL.lawful T L 𝓛;
-  copy = λ 𝓛. LL.copy T C 𝓛;
+  copied = λ 𝓛. LL.copied T C 𝓛;
 }
 
 abbrev pub of-enum : (T : ED.Declared) → EL.Laws T → Plainss (ED.variants T) → EL.Copyabless T.parts → Few (ED.shape T) → Whole
@@ -72,7 +74,7 @@ of-enum T L P C few = record {
   tells = EL.tells T L;
   makes = λ 𝓛. EL.makes T P 𝓛;
   lawful = λ 𝓛. EL.lawful T L 𝓛 few;
-  copy = λ 𝓛. EL.copy T C 𝓛;
+  copied = λ 𝓛. EL.copied T C 𝓛;
 }
 
 abbrev pub of-uint : Width → Whole
@@ -83,7 +85,7 @@ of-uint w = record {
   tells = uint_Tells w;
   makes = λ 𝓛. uint_Makes 𝓛 w;
   lawful = λ 𝓛. uint_Lawful 𝓛 w;
-  copy = λ 𝓛. uint_copy 𝓛 w;
+  copied = λ 𝓛. uint_Copied 𝓛 w;
 }
 
 -- what is known of x where it is whole
@@ -118,12 +120,12 @@ lent R κ b o γ = fbor κ (Body (mem R.row) b o γ)
 abbrev opened : (R : Whole) → Lft → Share → ℕ → ℕ → GName → Fml
 opened R κ q b o γ = fobor κ q (Body (mem R.row) b o γ)
 
--- what a `&T` holds: the borrow of some share, shut or open at the share p
+-- what a `&T` holds; and the way back to its lifetime's token while a share p of it is out
 abbrev shared : (R : Whole) → Lft → R.row.Denot → ℕ → ℕ → Fml
-shared R κ h b o = fshr_bor κ (λ s. part_at R.row s h b o)
+shared R κ h b o = hidden_shr R.row κ h b o
 
-abbrev looked : (R : Whole) → Lft → Share → Share → R.row.Denot → ℕ → ℕ → Fml
-looked R κ q p h b o = fobor κ q (part_at R.row p h b o)
+abbrev looked : {M : Type 1} {𝓤 : Ura M} (𝓛 : Logic 𝓤) (R : Whole) → Lft → Share → Share → R.row.Denot → ℕ → ℕ → Item 𝓤
+looked 𝓛 R κ q p h b o = Shut 𝓛 κ q (part_at R.row p h b o)
 
 pub both_facts : {M : Type 1} (𝓤 : Ura M) (φ ψ : Type 0) → ent 𝓤 (sep 𝓤 (fact 𝓤 φ) (fact 𝓤 ψ)) (fact 𝓤 (φ × ψ))
 both_facts 𝓤 φ ψ =
@@ -162,20 +164,20 @@ module _ {M : Type 1} {𝓤 : Ura M} {𝓛 : Logic 𝓤} {K : Type 0} {Γ : List
     -- a `&T` is looked into, and shut
 
     pub looks-whole : K → Soaks G → (R : Whole) {κ : Lft} {q : Share} (h : R.row.Denot) (b o : ℕ)
-        → ((p : Share) → Known R h → Seq K 𝓛 (‵ (cell p R h b o) ∷ ‵ (looked R κ q p h b o) ∷ ‵ (shared R κ h b o) ∷ Γ) G)
+        → ((p : Share) → Known R h → Seq K 𝓛 (‵ (cell p R h b o) ∷ looked 𝓛 R κ q p h b o ∷ ‵ (shared R κ h b o) ∷ Γ) G)
         → Seq K 𝓛 (‵ (shared R κ h b o) ∷ ‵ (flft κ q) ∷ Γ) G
     looks-whole t z R h b o k =
-        looks t z R.row (Is R.row) (shows 𝓛 R.row) (λ x. R.val x ∷ []) R.tells (R.copy 𝓛) h b o (λ p vs.
+        looks t z R.row (R.copied 𝓛).opens h b o (λ p vs.
         spelt t R.row (Is R.row) (shows 𝓛 R.row) (λ x. R.val x ∷ []) R.tells p h vs b o $
         move t (1 ∷ []) $ facts t R.row (Is R.row) (shows 𝓛 R.row) h (R.val h ∷ []) (k p))
 
     pub shuts-whole : K → Soaks G → (R : Whole) {κ : Lft} {q : Share} (p : Share) (h : R.row.Denot) (b o : ℕ) → Known R h
-        → Step K 𝓛 (‵ (flft κ q) ∷ Γ) G (‵ (cell p R h b o) ∷ ‵ (looked R κ q p h b o) ∷ Γ) G
+        → Step K 𝓛 (‵ (flft κ q) ∷ Γ) G (‵ (cell p R h b o) ∷ looked 𝓛 R κ q p h b o ∷ Γ) G
     shuts-whole t z R p h b o g = step (λ s.
         owned t R.row (Is R.row) (R.makes 𝓛) h _ g $ move t (1 ∷ 0 ∷ []) $ shuts t z R.row p h (R.val h ∷ []) b o $ s)
 
   -- a call; Says is the fact that is heard of what it ensures
-  pub calls-hearing : K → {E : Env 𝓤 H} {C : Calls 𝓤 H} {Λ : Loops 𝓤 H} {q : Post 𝓤 H} {d : Place} {f : Name} {xs : List Operand} {rest : Code}
+  pub calls-hearing : K → {E : Env 𝓤 H} {C : Calls 𝓤 H} {Λ : Loops 𝓤 H} {q : Post 𝓤 H} {d : Place} {f : Callee} {xs : List Operand} {rest : Code}
       → FmC 𝓤 H 𝓛.laws C → (c : Contract 𝓤) → Triple 𝓤 (C f) c → (x : c.Ghost) → Opds K 𝓛 (raw (c.pre x) ∷ Γ) E xs (c.args x)
       → (Tok : Item 𝓤) (R : Whole) {Ws : Type 0} (L : Ws → Fml) (Said : R.row.Denot → Ws → SProp 𝓤) (Says : R.row.Denot → Ws → Type 0)
       → ((r : R.row.Denot) (ws : Ws) → ent 𝓤 (Said r ws) (fact 𝓤 (Says r ws))) → ((v : Val) → ent 𝓤 (c.post x v) (mean 𝓛 (Back Tok R L Said v)))
@@ -194,7 +196,7 @@ module _ {M : Type 1} {𝓤 : Ura M} {𝓛 : Logic 𝓤} {K : Type 0} {Γ : List
           (k r ws e (subst (Is R.row r) (R.tells r (v ∷ []) g) g))
 
   -- the same where it ensures just one fact
-  pub calls-whole : K → {E : Env 𝓤 H} {C : Calls 𝓤 H} {Λ : Loops 𝓤 H} {q : Post 𝓤 H} {d : Place} {f : Name} {xs : List Operand} {rest : Code}
+  pub calls-whole : K → {E : Env 𝓤 H} {C : Calls 𝓤 H} {Λ : Loops 𝓤 H} {q : Post 𝓤 H} {d : Place} {f : Callee} {xs : List Operand} {rest : Code}
       → FmC 𝓤 H 𝓛.laws C → (c : Contract 𝓤) → Triple 𝓤 (C f) c → (x : c.Ghost) → Opds K 𝓛 (raw (c.pre x) ∷ Γ) E xs (c.args x)
       → (Tok : Item 𝓤) (R : Whole) {Ws : Type 0} (L : Ws → Fml) (Says : R.row.Denot → Ws → Type 0)
       → ((v : Val) → ent 𝓤 (c.post x v) (mean 𝓛 (Back Tok R L (λ r ws. fact 𝓤 (Says r ws)) v)))

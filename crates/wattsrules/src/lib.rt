@@ -1,4 +1,6 @@
 // Spec 8.8: the rule that held the watts.
+#![tactic(auto)]
+
 ghost use Rattle.std.specs.Prelude.{◌≡◌, true, ◌++◌, ℕ, ◌≤◌, ◌<◌, nat_abs};
 ghost use Rattle.rules.specs.Settings.{settings_accepted};
 ghost use Rattle.rules.specs.Samples.{Slice, Equipment, frequency};

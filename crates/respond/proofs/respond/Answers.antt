@@ -1,0 +1,54 @@
+-- `respond::respond` meets its contract.
+-- Assumes nothing.
+use Rattle.std.proofs.Common.{◌≡◌, sym, ap, ◌∙◌, ◌||◌, ℕ, arith, length}
+use mathlib.Core.Bool.{false≢true}
+use Prim.Native.Nat.{min}
+use lib.Dec.{leb}
+use Rattle.rules.specs.Regions.{our_equipment}
+use Rattle.respond.proofs.Whole.{wild, taken-low, fit-part, part-inside, short-left, responds}
+use Rattle.respond.proofs.respond.Goals as goal
+
+pub returns-then-not-sensible : goal.returns-then-not-sensible
+returns-then-not-sensible c =
+    let a = c.args in
+    let odd = sym c.sensible.ensures ∙ c.if-not-sensible.true in
+    record {
+      responds = wild our_equipment a.state a.block.now a.last a.out.now c.stop.result odd c.stop.ensures;
+      taken_in_bounds = (omega arith, omega arith);
+      block_len_bound = λ room going none. absurd (false≢true (sym going));
+    }
+
+pub budget-budget-requires : goal.budget-budget-requires
+budget-budget-requires c =
+    let a = c.args in
+    taken-low our_equipment a.state a.block.now a.last (sym c.sensible.ensures ∙ c.if-not-sensible.false)
+
+-- the part of the block that the budget has room for
+part_end : (total held end size : ℕ) → total ≡ held → end ≡ min total size → end ≡ min held size
+part_end total held end size is ends = ends ∙ ap (λ (m : ℕ). min m size) is
+
+pub handle-r-requires : goal.handle-r-requires
+handle-r-requires c =
+    let a = c.args in
+    let w = c.within_budget-end in
+    let told = sym c.sensible.ensures ∙ c.if-not-sensible.false in
+    let end = part_end _ _ _ _ c.budget-budget.ensures w.ensures in
+    fit-part our_equipment a.state a.block.now a.last told w.result end
+
+pub returns : goal.returns
+returns c =
+    let a = c.args in
+    let w = c.within_budget-end in
+    let e = c.either-ends in
+    let r = c.handle-r in
+    let told = sym c.sensible.ensures ∙ c.if-not-sensible.false in
+    let end = part_end _ _ _ _ c.budget-budget.ensures w.ensures in
+    let block = a.block.now in
+    let out = a.out.now in
+    let ends = e.ensures ∙ ap (λ (m : ℕ). a.last || leb m (length block)) c.budget-budget.ensures in
+    let whole = responds our_equipment a.state block a.last told w.result end e.result ends out _ r.result r.ensures in
+    record {
+      responds = whole;
+      taken_in_bounds = (part-inside block w.result r.result.at r.ensures.inside, r.ensures.wrote.inside);
+      block_len_bound = short-left our_equipment a.state block a.last told out _ _ whole;
+    }

@@ -1,0 +1,10 @@
+-- `text::table::form_bytes` meets its contract: the code's table is the rules' forms, one after the other, by one computed test.
+-- Assumes nothing.
+use mathlib.Core.Path.{refl}
+use Rattle.rules.specs.Forms.{sheet_forms, sample_form}
+use Rattle.formats.specs.Marks.{forms}
+use Rattle.text.proofs.table.form_bytes.Goals as goal
+
+pub returns : goal.returns
+unfolding forms sheet_forms sample_form
+returns c = refl
