@@ -1,7 +1,7 @@
 /* Carries images over between the old firmware, from before recovery count and droop (45 bytes), and this one (49
  * bytes), as a filter:
  *
- *     rt staticlib saltdelta
+ *     tools/staticlib.sh
  *     cc examples/carry.c -Iinclude target/staticlib/libsaltdelta.a -o carry
  *     ./carry forward < old.image > new.image
  *     ./carry back < new.image > old.image

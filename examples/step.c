@@ -1,6 +1,6 @@
 /* The smallest program: it reads a sheet of settings from standard input, makes a fresh board and steps it three times.
  *
- *     rt staticlib saltdelta
+ *     tools/staticlib.sh
  *     cc examples/step.c -Iinclude target/staticlib/libsaltdelta.a -o step
  *     ./step < examples/listing.in
  */

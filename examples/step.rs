@@ -2,7 +2,7 @@
 //! a fresh board and steps it three times.
 //!
 //! ```text
-//! rt staticlib saltdelta
+//! tools/staticlib.sh
 //! rustc -O --edition 2021 examples/step.rs -L target/staticlib -o step
 //! ./step < examples/listing.in
 //! ```

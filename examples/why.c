@@ -1,7 +1,7 @@
 /* Why: reads what `board` reads, a sheet and then samples. For each line it says status and watts, and the rules that
  * held them, or the number by which the line is refused. Before the first line it says those of the fresh board.
  *
- *     rt staticlib saltdelta
+ *     tools/staticlib.sh
  *     cc examples/why.c -Iinclude target/staticlib/libsaltdelta.a -o why
  *     ./why < examples/morning.in
  *

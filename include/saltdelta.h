@@ -1,6 +1,6 @@
 /* saltdelta.h: the grid-interface board as a library for C on x86-64.
  *
- *     rt staticlib saltdelta              makes target/staticlib/libsaltdelta.a
+ *     tools/staticlib.sh                  makes target/staticlib/libsaltdelta.a
  *     cc program.c -Iinclude target/staticlib/libsaltdelta.a
  *
  * examples/step.c is the smallest program, and docs/LIBRARY.md is a guide. include/saltdelta.rs is the same for Rust.
@@ -19,9 +19,9 @@
  *     saltdelta_carry_back        carries an image back to the old firmware
  *     saltdelta_replay            replays recorded samples
  *
- * The library keeps nothing between calls and allocates nothing. It needs memcpy and some 10 kB of stack, a saving some
- * 150 bytes. You may lend any numbers: there is an answer to each. The contracts in crates/saltdelta/src/lib.rt say
- * which, and that is proved.
+ * The library keeps nothing between calls and allocates nothing. It needs memcpy, memset and some 10 kB of stack, a
+ * saving some 150 bytes. You may lend any numbers: there is an answer to each. The contracts in
+ * crates/saltdelta_c/src/lib.rt say which, and that is proved.
  *
  * UNITS (spec 1.2). Voltage: 10000 is nominal. Frequency: mHz. Power: 10000 is the rating. Time: steps of 10 ms.
  *

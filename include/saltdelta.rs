@@ -4,7 +4,7 @@
 //! Make the library, and compile your program against it:
 //!
 //! ```text
-//! rt staticlib saltdelta
+//! tools/staticlib.sh
 //! rustc -O --edition 2021 program.rs -L target/staticlib
 //! ```
 //!

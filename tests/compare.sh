@@ -10,7 +10,7 @@ if ! rustc -O --edition 2021 tests/compare/compare.rs -o target/comparison/compa
     exit 1
 fi
 if [ ! -x "$board" ]; then
-    echo "$board is missing: 'rt check board' makes it"
+    echo "$board is missing: 'tools/board.sh' makes it"
     echo "0 passed, 1 failed"
     exit 1
 fi

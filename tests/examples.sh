@@ -4,7 +4,7 @@ set -u
 cd "$(dirname "$0")/.." || exit 2
 board=${BOARD:-target/bin/board}
 if [ ! -x "$board" ]; then
-    echo "$board is missing: 'rt check board' makes it"
+    echo "$board is missing: 'tools/board.sh' makes it"
     echo "0 passed, 1 failed"
     exit 1
 fi

@@ -44,7 +44,7 @@ c() {
         stop "$1: its C does not compile"
 }
 
-rt staticlib saltdelta > "$out/staticlib.log" 2>&1 ||
+tools/staticlib.sh > "$out/staticlib.log" 2>&1 ||
     { tail -n 5 "$out/staticlib.log"; stop "the library is not made"; }
 rust comparison comparison/board.rs
 rust check-rust tests/library/check.rs -L target/staticlib

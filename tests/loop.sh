@@ -1,6 +1,7 @@
 #!/usr/bin/env bash
-# What no contract can say of `board`'s loop (docs/PROOF.md, "What is only tested"): each call of C, and each step of the loop that leads to one, has one
-# place in the source, and nothing writes into the input buffer between a read and its answer but `to_front`, after it.
+# What no contract says of `board`'s loop over standard input and output (docs/PROOF.md, "What is only tested"): each read and each write, and each step
+# of the loop that leads to one, has one place in the source, and nothing writes into the input buffer between a read and its answer but `to_front`, after
+# it.
 set -u
 cd "$(dirname "$0")/.." || exit 2
 passed=0
@@ -26,23 +27,36 @@ expect() {
     fi
 }
 
-# All calls of C stand in crate stdio: one read, one write, and `io::count`, which makes no call.
-expect 0 'libc::' $main $loop
-expect 0 ' io::' $main $loop
-expect 1 'libc::read(' $stdio
-expect 0 'libc::write(' $stdio
-expect 1 'io::write_all(' $stdio
-expect 2 ' io::' $stdio
+# All reads and writes stand in crate stdio: one read, and one write, in a loop.
+expect 0 'libc::' $main $loop $stdio
+expect 0 ' io::' $main $loop $stdio
+expect 0 '.read' $main $loop
+expect 0 '.write' $main $loop
+expect 1 '.read' $stdio
+expect 1 'from.read(' $stdio
+expect 1 '.write' $stdio
+expect 1 'to.write(' $stdio
+expect 1 'put_all(to, text)' $stdio
+expect 2 'put_all' $stdio
+expect 0 '::read' $main $loop $stdio
+expect 0 '::write' $main $loop $stdio
+expect 0 'print' $main $loop $stdio
+expect 0 '!(' $main
+expect 2 'rt.' $main
+expect 1 'rt.stdin()' $main
+expect 1 'rt.stdout()' $main
 
-# The loop goes to each of them from one place, and `main` runs it once. (A function's own line is the other.)
-expect 1 'read_to(buf' $loop
-expect 1 'hand_over(&out' $loop
-expect 2 ' say(' $loop
-expect 2 ' answer(' $loop
-expect 1 'fn run(' $loop
-expect 0 ' run(' $stdio
-expect 2 ' run(' $main $loop
-expect 1 '    run(start(), &mut buf, &mut out);' $main
+# The loop goes to each of them from one place, and `main` runs it once.
+expect 1 'read_to(from, buf' $loop
+expect 1 'hand_over(to, &out' $loop
+expect 1 ' say(' $loop
+expect 1 'fn say<' $loop
+expect 1 ' answer(' $loop
+expect 1 'fn answer<' $loop
+expect 1 'fn run<' $loop
+expect 0 ' run(' $stdio $loop
+expect 1 ' run(' $main
+expect 1 '    run(&mut from, &mut to, start(), &mut buf, &mut out);' $main
 expect 1 'Input::unread()' $loop
 expect 1 'Handed::unsaid()' $loop
 expect 1 'start()' $main $loop

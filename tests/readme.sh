@@ -25,7 +25,7 @@ papers="README.md docs/OPERATING.md docs/LIBRARY.md docs/PROOF.md docs/CONTRIBUT
 # Paths from the root of the repository, or from crates/. Those in capitals stand for any.
 for path in $(grep -ohE '[A-Za-z.]+(/[A-Za-z0-9_.-]+)+' $papers | sed 's/\.$//' | grep -vE '^target/|CRATE|NAME' | sort -u); do
     case $path in
-    */specs* | */proofs* | */src* | */must-fail* | docs/* | examples/* | tests/* | bench/* | comparison/* | include/* | .ci/*)
+    */specs* | */proofs* | */src* | */must-fail* | docs/* | examples/* | tests/* | bench/* | comparison/* | include/* | tools/* | .ci/*)
         [ -e "$path" ] || [ -e "crates/$path" ]
         expect $? "no file $path"
         ;;
@@ -75,9 +75,9 @@ for statement in $(grep -E '^\|([^|]*\|){4}$' docs/PROOF.md | cut -d '|' -f 2 | 
 done
 
 # The crates: a table in the order of crates.txt, and the picture.
-crates=$(sed -nE 's/^([a-z]+):.*/\1/p' crates.txt)
-same "docs/CONTRIBUTING.md: its crates are not those of crates.txt in their order" "$crates" "$(sed -nE 's/^\|[^|`]*\| `([a-z]+)` \|.*/\1/p' docs/CONTRIBUTING.md)"
-picture=$(sed -n '/^## The crates/,$p' README.md | awk '/^```/ { on = !on; next } on { print substr($0, 17) }' | sed -E 's/ {4,}[a-z][a-z ,;]*$//' | grep -oE '[a-z]+' | sort -u)
+crates=$(sed -nE 's/^([a-z_]+)( staticlib)?:.*/\1/p' crates.txt)
+same "docs/CONTRIBUTING.md: its crates are not those of crates.txt in their order" "$crates" "$(sed -nE 's/^\|[^|`]*\| `([a-z_]+)` \|.*/\1/p' docs/CONTRIBUTING.md)"
+picture=$(sed -n '/^## The crates/,$p' README.md | awk '/^```/ { on = !on; next } on { print substr($0, 17) }' | sed -E 's/ {4,}[a-z][a-z ,;]*$//' | grep -oE '[a-z_]+' | sort -u)
 same "README.md: the crates in its picture are not those of crates.txt" "$(sort <<< "$crates")" "$picture"
 
 # What must be believed names every file of definitions of `rules`, `causes` and `claims`, and no other.
@@ -107,11 +107,21 @@ for name in $operations; do
     *::*) operation "${name%%::*}" "${name##*::}" ;;
     esac
 done
-# Each function whose contract crates/demands/specs/Contracts.antt has is among them, by its path there.
-contracts=$(sed -nE 's/^use Rattle·([a-z]+)\.proofs\.([a-z_.]+)\.Statement as .*/\1::\2/p' crates/demands/specs/Contracts.antt | sed -E 's/\./::/g; s/^saltdelta:://' | sort)
-same "docs/PROOF.md: its public operations are not those of Contracts.antt" "$contracts" "$operations"
+# Each function whose contract crates/demands/specs/CodeContracts.antt has is among them, by its path there.
+contracts=$(sed -nE 's/^use Rattle\.([a-z]+)\.proofs\.([a-z_.]+)\.Statement as .*/\1::\2/p' crates/demands/specs/CodeContracts.antt | sed -E 's/\./::/g; s/^saltdelta:://' | sort)
+same "docs/PROOF.md: its public operations are not those of CodeContracts.antt" "$contracts" "$operations"
 
-exported=$(grep -ohE 'extern "C" fn saltdelta_[a-z_]+' crates/saltdelta/src/lib.rt | awk '{ print $4 }' | sort)
+# The exported functions are those of saltdelta, each with the contract of that of its name, which it only calls.
+exported=$(grep -ohE 'extern "C" fn saltdelta_[a-z_]+' crates/saltdelta_c/src/lib.rt | awk '{ print $4 }' | sort)
+same "saltdelta_c: its functions are not those of saltdelta" "$exported" "$(grep -ohE '^pub fn saltdelta_[a-z_]+' crates/saltdelta/src/lib.rt | awk '{ print $3 }' | sort)"
+for name in $exported; do
+    same "saltdelta_c: the contract of $name is not that in saltdelta" "$(signature saltdelta_c "$name" | sed 's/^pub extern "C" fn/pub fn/')" "$(signature saltdelta "$name")"
+    [ "$(grep -cE "^    saltdelta::$name\([a-z, ]*\)$" crates/saltdelta_c/src/lib.rt)" -eq 1 ]
+    expect $? "saltdelta_c: $name is not one call of that of its name"
+done
+# Their clauses take their words from the same definitions, and no body is longer than its call.
+same "saltdelta_c: its clauses are not of the definitions that those of saltdelta are of" "$(grep '^ghost use' crates/saltdelta_c/src/lib.rt)" "$(grep '^ghost use' crates/saltdelta/src/lib.rt)"
+same "saltdelta_c: a function does more than to call" "$(wc -l <<< "$exported")" "$(grep -cE '^    [^ ].*\)$|^    .*;$' <<< "$(sed -n '/^{/,/^}/p' crates/saltdelta_c/src/lib.rt)")"
 same "include/saltdelta.h: its functions are not the exported ones" "$exported" "$(grep -oE '^[a-z0-9_]+ saltdelta_[a-z_]+\(' include/saltdelta.h | awk '{ print $2 }' | tr -d '(' | sort)"
 same "include/saltdelta.rs: its functions are not the exported ones" "$exported" "$(grep -oE '^    fn saltdelta_[a-z_]+\(' include/saltdelta.rs | awk '{ print $2 }' | tr -d '(' | sort)"
 same "docs/LIBRARY.md: its calls are not the exported functions" "$exported" "$(sed -nE 's/^\| `(saltdelta_[a-z_]+)` \|.*/\1/p' docs/LIBRARY.md | sort)"

@@ -11,5 +11,5 @@ mkdir -p "$out"
 stop() { echo "$1"; echo "0 passed, 1 failed"; exit 1; }
 
 rustc -O --edition 2021 tests/saving/check.rs -o "$out/check" || stop "tests/saving/check.rs does not compile"
-rt mir saltdelta > "$out/mir" 2> "$out/mir.log" || { tail -n 5 "$out/mir.log"; stop "the compiler gives no account of saltdelta"; }
-"$out/check" . "$out/mir"
+tools/account.sh saltdelta > "$out/account" 2> "$out/account.log" || { tail -n 5 "$out/account.log"; stop "the compiler gives no account of saltdelta"; }
+"$out/check" . "$out/account"

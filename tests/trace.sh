@@ -33,7 +33,7 @@ found() {
     edit,*/*) [ -f "crates/${name%%/*}/must-fail/${name#*/}.edit" ] ;;
     *,*::*) defined "${name#*::}" $(find "crates/${name%%::*}/src" -name '*.rt') ;;
     *,*.rs:* | *,*.c:*) defined "${name#*:}" $(find tests/compare tests/library comparison -name "${name%%:*}") ;;
-    *,*/*:*) defined "${name#*:}" $(find "crates/${name%%/*}" -name "$(basename "${name%%:*}").antt") ;;
+    *,*/*:*) defined "${name#*:}" $(find "crates/${name%%/*}" -path '*/out' -prune -o -name "$(basename "${name%%:*}").antt" -print) ;;
     *,*/*) [ -f "$name" ] || [ -f "crates/$name" ] ;;
     *) grep -qE "^(abbrev )?pub (record )?$name( \(e : Equipment\))? :" crates/demands/specs/Demands.antt crates/shams/specs/Caught.antt ;;
     esac
@@ -62,7 +62,7 @@ done < <(grep -E '^\| [0-9]+\.[0-9]+ \|' docs/TRACE.md)
 
 # Citations: a clause or a section after the word, and those that follow it after a comma, 'to' or 'and'.
 sections=$(sed -nE 's/^## ([0-9]+)\..*/\1/p' docs/SPECIFICATION.md)
-for cited in $(grep -rhoiE '\bspec [0-9]+(\.[0-9]+)?((, | to | and )[0-9]+\.[0-9]+)*' crates include tests comparison bench examples docs README.md crates.txt |
+for cited in $(grep -rhoiE --exclude-dir=out '\bspec [0-9]+(\.[0-9]+)?((, | to | and )[0-9]+\.[0-9]+)*' crates include tests comparison bench examples docs README.md crates.txt |
     grep -oE '[0-9]+(\.[0-9]+)?' | sort -V -u); do
     grep -qxF "$cited" <<< "$clauses
 $sections"

@@ -1,11 +1,16 @@
-//! The compiler's account of the functions, as `rt mir` prints it: their locals with their types, and their calls. A constant that the compiler puts
-//! in as a number does not show there.
+//! The compiler's account of the functions, as tools/account.sh prints it: their locals with their types, and their calls. A constant that the compiler
+//! puts in as a number does not show there.
 
 use std::collections::{BTreeMap, BTreeSet};
 
+/// What stands behind a function's name where its account begins.
+const HEAD: &str = "\",{\"lifetimes\":";
+
 /// The record's declaration, whose counters are the one array that may stand in a function's account.
-const RECORD: &str = "(pair \"rules::Board\" (fields ";
-const COUNTERS: &str = "(tyArray (tyInt 32) (lenLit 9))";
+const RECORD: &str = "{\"name\":\"rules::Board\",";
+const COUNTERS: &str = "{\"Array\":[{\"Int\":32},{\"Lit\":9}]}";
+const ARRAY: &str = "\"Array";
+const CALLED: &str = "\"Fn\":[\"";
 
 pub struct Program {
     functions: BTreeMap<String, String>,
@@ -13,13 +18,9 @@ pub struct Program {
 
 impl Program {
     pub fn of(text: &str) -> Program {
-        // the account ends with the name of the main function
-        let text = text.rsplit_once("(fnRef").map_or(text, |(front, _)| front);
-        let functions = text.split("(fn-def \"").skip(1).filter_map(|part| {
-            let (name, body) = part.split_once('"')?;
-            Some((name.to_string(), body.to_string()))
-        });
-        Program { functions: functions.collect() }
+        let parts: Vec<&str> = text.split(HEAD).collect();
+        let name = |front: &str| front.rsplit_once('"').map(|(_, name)| name.to_string());
+        Program { functions: parts.windows(2).filter_map(|two| Some((name(two[0])?, two[1].to_string()))).collect() }
     }
 
     /// A function and all that it calls, and what that calls.
@@ -27,7 +28,7 @@ impl Program {
         let (mut found, mut open) = (BTreeSet::new(), vec![root.to_string()]);
         while let Some(name) = open.pop() {
             let body = self.functions.get(&name).map_or("", String::as_str);
-            open.extend(body.split("(fnRef \"").skip(1).filter_map(|part| part.split('"').next()).map(str::to_string).filter(|n| !found.contains(n)));
+            open.extend(body.split(CALLED).skip(1).filter_map(|part| part.split('"').next()).map(str::to_string).filter(|n| !found.contains(n)));
             found.insert(name);
         }
         found
@@ -38,18 +39,22 @@ impl Program {
         let Some(body) = self.functions.get(name) else { return false };
         let mut parts = body.split(RECORD);
         let front = parts.next().unwrap_or("");
-        !front.contains("tyArray") && parts.all(|part| !part.replacen(COUNTERS, "", 1).contains("tyArray"))
+        !front.contains(ARRAY) && parts.all(|part| !part.replacen(COUNTERS, "", 1).contains(ARRAY))
     }
 }
 
 /// Wrong accounts: a text of the right one, and the text in its place wherever it stands, so in the functions of saving too.
 pub const WRONG: [(&str, &str, &str); 4] = [
-    ("a local array", "(fn-def \"imagefields::put_field\" ", "(fn-def \"imagefields::put_field\" (local (tyArray (tyInt 8) (lenLit 1)) valueLocal) "),
-    ("an array beside the record's", COUNTERS, "(tyArray (tyInt 32) (lenLit 9)) (tyArray (tyInt 8) (lenLit 1))"),
+    (
+        "a local array",
+        "[\"imagefields::put_field\",{\"lifetimes\":",
+        "[\"imagefields::put_field\",{\"lifetimes\":0,\"locals\":[{\"ty\":{\"Array\":[{\"Int\":8},{\"Lit\":1}]},\"home\":\"ValueLocal\"}],\"then\":",
+    ),
+    ("an array beside the record's", COUNTERS, "{\"Array\":[{\"Int\":32},{\"Lit\":9}]},{\"Array\":[{\"Int\":8},{\"Lit\":1}]}"),
     (
         "a call that the source does not have",
-        "(fn-def \"imagefields::put_field\" ",
-        "(fn-def \"imagefields::bytes\") (fn-def \"imagefields::put_field\" (fnRef \"imagefields::bytes\") ",
+        "[\"imagefields::put_field\",{\"lifetimes\":",
+        "[\"imagefields::bytes\",{\"lifetimes\":0}],[\"imagefields::put_field\",{\"lifetimes\":0,\"call\":{\"Fn\":[\"imagefields::bytes\"]},\"then\":",
     ),
-    ("no account of a function", "(fn-def \"imagefields::put_field\" ", "(fn-def \"imagefields::other\" "),
+    ("no account of a function", "[\"imagefields::put_field\",{\"lifetimes\":", "[\"imagefields::other\",{\"lifetimes\":"),
 ];

@@ -292,10 +292,11 @@ fn used(tokens: &[Token], front: &[String], out: &mut Vec<Use>) {
     out.extend(path.last().map(|name| Use { name: name.clone(), path: path.clone() }));
 }
 
-/// The place of an item's first word, behind its attributes and `pub`.
+/// The place of an item's first word, behind its attributes, the file's, `#![..]`, and `pub`.
 fn word_at(tokens: &[Token], mut at: usize) -> usize {
     while at < tokens.len() && (tokens[at].is("#") || tokens[at].is("pub")) {
-        at += 1;
+        let inner = tokens[at].is("#") && tokens.get(at + 1).is_some_and(|t| t.is("!"));
+        at += if inner { 2 } else { 1 };
         if tokens.get(at).is_some_and(|t| t.is("[") || t.is("(")) {
             at = closed(tokens, at);
         }
@@ -406,8 +407,10 @@ const CRATES: &str = "crates.txt";
 /// The crates that each stands on, itself among them, and what those stand on.
 fn below(text: &str) -> BTreeMap<String, BTreeSet<String>> {
     let lines = text.lines().filter_map(|line| line.split('#').next()?.split_once(':'));
+    // a line's first word is the crate's name, also in `NAME staticlib: ..`
+    let named = lines.filter_map(|(front, others)| Some((front.split_whitespace().next()?, others)));
     let mut all: BTreeMap<String, BTreeSet<String>> =
-        lines.map(|(name, others)| (name.trim().to_string(), others.split_whitespace().chain([name.trim()]).map(str::to_string).collect())).collect();
+        named.map(|(name, others)| (name.to_string(), others.split_whitespace().chain([name]).map(str::to_string).collect())).collect();
     for _ in 0..all.len() {
         let next = all
             .iter()
@@ -425,7 +428,10 @@ pub fn files(root: &Path) -> std::io::Result<BTreeMap<String, String>> {
         for entry in std::fs::read_dir(&at)? {
             let path = entry?.path();
             if path.is_dir() {
-                folders.push(path);
+                // what the kit makes of a crate stands in its out/, with copies of its source
+                if path.file_name().is_none_or(|name| name != "out") {
+                    folders.push(path);
+                }
             } else if path.extension().is_some_and(|e| e == "rt") {
                 let name = path.strip_prefix(root).unwrap_or(&path).to_string_lossy().into_owned();
                 found.insert(name, std::fs::read_to_string(&path)?);
