@@ -1,9 +1,9 @@
 -- `samples::fast::fast_sample_at` meets its contract: each turn takes one number of the sample form with the byte that closes it.
 -- Assumes nothing.
-use mathlib.Core.Path.{sym, ◌∙◌}
+use mathlib.Core.Path.{◌≡◌, sym, ◌∙◌}
 use mathlib.Core.Bool.{false≢true}
-use mathlib.Core.Logic.{⊎_elim}
 use Prim.Native.Nat.{◌-◌}
+use lib.ListN.{get_or}
 use native.Mathlib.Omega.{arith}
 use borrow.Author.Tests.{not-false}
 use Rattle.samples.proofs.FastSamples.{SoFar, fast-start, closing-plain, next-number, next-spaced, fast-ends}
@@ -25,4 +25,5 @@ loop-k-preserved c =
 pub returns : goal.returns
 returns c found =
     let l = c.loop-k in
-    fast-ends c.args.s.now c.args.start l.slice l.k l.at l.invariant c.loop-k-test.false c.requires c.if-s-at-ne10.false
+    let feed : get_or c.args.s.now l.at 0 ≡ 10 = omega arith in
+    fast-ends c.args.s.now c.args.start l.slice l.k l.at l.invariant c.loop-k-test.false c.requires feed
