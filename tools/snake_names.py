@@ -1,7 +1,7 @@
 #!/usr/bin/env python3
 """Turns the repository's own lower camel case names of specs/, proofs/ and clauses to snake case.
 
-usage: python3 tools/snake_names.py [--list]     in the repository, once, right after /opt/rattle/port/port.py
+usage: python3 tools/snake_names.py [--list]     in the repository, once, right after the kit's port.py
 
 Functions of src/ have snake case already, and exported names, strings, inputs and outputs are left as they are: the words of
 KEPT are names of the kit, units and text. Where two names would fall together the word of APART is taken in place of the plain one.
