@@ -8,7 +8,7 @@ ghost use Rattle.stdio.specs.Counts.{out_room, Talks, Tells};
 
 use handover::say;
 use program::State;
-use states::{both, goes_on};
+use states::goes_on;
 use std::io::Write;
 use stdio::{Handed, Input};
 
@@ -49,7 +49,7 @@ pub fn answer<W: Write>(
         state = r.state;
         handed = r.handed;
         at += taken;
-        going = both(handed.put(), !r.done);
+        going = handed.put() && !r.done;
         more = goes_on(going, taken);
     }
     Answered {

@@ -11,8 +11,9 @@ use lib.ListN.{length, take, drop, take-append-drop, length-append}
 use lib.Seq.{length-take-le, take_at, drop_at}
 use Rattle.rules.specs.Images.{image_length}
 use Rattle.oldimages.specs.OldImages.{old_length, added_bytes, has_added}
-use Rattle.carryover.specs.CarryOver.{carried_forward, carried_back, carry_number, carry_answer, forward_answer, back_answer, carried_into, forward_into, back_into}
-use Rattle.carryover.specs.declared.CarryAnswer.{CarryAnswer}
+use Rattle.std.specs.Prelude.{Ok, Err}
+use Rattle.carryover.specs.CarryOver.{CarryAnswer, carried_forward, carried_back, carry_number, carry_answer, forward_answer, back_answer, carried_into, forward_into, back_into}
+use Rattle.carryover.specs.declared.CarryRefusal.{CarryRefusal}
 use Rattle.carryover.specs.Carries.{our_forward, our_back, CarryRefusedRightly, new_in, old_in, RoundTrips}
 use Rattle.oldimages.proofs.Added.{added_true, true-added}
 use Rattle.carryover.proofs.Outcomes.{clear, forward-first, back-first}
@@ -20,25 +21,25 @@ use Rattle.carryover.proofs.Outcomes.{clear, forward-first, back-first}
 -- ---- where nothing is refused
 
 -- the answer whose number is 0
-zero-written : (a : CarryAnswer) → carry_number a ≡ 0 → a ≡ CarryAnswer.Written
-zero-written CarryAnswer.Written e = refl
-zero-written CarryAnswer.SourceLength e = absurd (omega arith)
-zero-written CarryAnswer.AddedBytes e = absurd (omega arith)
-zero-written CarryAnswer.TargetLength e = absurd (omega arith)
+zero-written : (a : CarryAnswer) → carry_number a ≡ 0 → a ≡ Ok tt
+zero-written (Ok tt) e = refl
+zero-written (Err CarryRefusal.SourceLength) e = absurd (omega arith)
+zero-written (Err CarryRefusal.AddedBytes) e = absurd (omega arith)
+zero-written (Err CarryRefusal.TargetLength) e = absurd (omega arith)
 
 -- three tests that pass
-all-passed : (measured added room : Bool) → measured ≡ true → added ≡ true → room ≡ true → carry_answer measured added room ≡ CarryAnswer.Written
+all-passed : (measured added room : Bool) → measured ≡ true → added ≡ true → room ≡ true → carry_answer measured added room ≡ Ok tt
 all-passed measured added room e₁ e₂ e₃ = rw (e₁, e₂, e₃)
 
 module _ (source target : List ℕ) where
-  forward-written : length source ≡ old_length → image_length ≤ length target → forward_answer source target ≡ CarryAnswer.Written
+  forward-written : length source ≡ old_length → image_length ≤ length target → forward_answer source target ≡ Ok tt
   unfolding forward_answer
   forward-written measured room =
       all-passed (eqb (length source) old_length) true (leb image_length (length target)) (eq-eqb (length source) old_length measured) refl
       (le-leb image_length (length target) room)
 
   back-written : length source ≡ image_length → drop old_length source ≡ added_bytes → old_length ≤ length target
-      → back_answer source target ≡ CarryAnswer.Written
+      → back_answer source target ≡ Ok tt
   unfolding back_answer
   back-written measured added room =
       all-passed (eqb (length source) image_length) (has_added source) (leb old_length (length target)) (eq-eqb (length source) image_length measured)
@@ -69,14 +70,14 @@ pub whole : (new : List ℕ) → drop old_length new ≡ added_bytes → carried
 whole new added = ap (λ (l : List ℕ). take old_length new ++ l) (sym added) ∙ take-append-drop old_length new
 
 module _ (a : CarryAnswer) (image target : List ℕ) where
-  into : a ≡ CarryAnswer.Written → carried_into a image target ≡ image ++ drop (length image) target
+  into : a ≡ Ok tt → carried_into a image target ≡ image ++ drop (length image) target
   into e = ap (λ (k : CarryAnswer). carried_into k image target) e
 
   -- the image in the target, and the bytes behind it
-  image-in : (k : ℕ) → a ≡ CarryAnswer.Written → length image ≡ k → take k (carried_into a image target) ≡ image
+  image-in : (k : ℕ) → a ≡ Ok tt → length image ≡ k → take k (carried_into a image target) ≡ image
   image-in k e long = ap (take k) (into e) ∙ take_at image _ k long
 
-  rest_in : (k : ℕ) → a ≡ CarryAnswer.Written → length image ≡ k → drop k (carried_into a image target) ≡ drop k target
+  rest_in : (k : ℕ) → a ≡ Ok tt → length image ≡ k → drop k (carried_into a image target) ≡ drop k target
   rest_in k e long = ap (drop k) (into e) ∙ drop_at image _ k long ∙ ap (λ (m : ℕ). drop m target) long
 
 -- ---- each undoes the other
@@ -132,17 +133,13 @@ round-trips =
 
 -- a refused call, by its number
 kept : (a : CarryAnswer) (image target : List ℕ) → 0 < carry_number a → carried_into a image target ≡ target
-kept CarryAnswer.Written image target h = absurd (omega arith)
-kept CarryAnswer.SourceLength image target h = refl
-kept CarryAnswer.AddedBytes image target h = refl
-kept CarryAnswer.TargetLength image target h = refl
+kept (Ok done) image target h = absurd (omega arith)
+kept (Err why) image target h = refl
 
 -- the bytes behind the image, refused or not
 rest-kept : (a : CarryAnswer) (k : ℕ) (image target : List ℕ) → (carry_number a ≡ 0 → length image ≡ k) → drop k (carried_into a image target) ≡ drop k target
-rest-kept CarryAnswer.Written k image target long = rest_in CarryAnswer.Written image target k refl (long refl)
-rest-kept CarryAnswer.SourceLength k image target long = refl
-rest-kept CarryAnswer.AddedBytes k image target long = refl
-rest-kept CarryAnswer.TargetLength k image target long = refl
+rest-kept (Ok done) k image target long = rest_in (Ok done) image target k refl (long refl)
+rest-kept (Err why) k image target long = refl
 
 pub refused-rightly : CarryRefusedRightly our_forward our_back
 unfolding our_forward our_back forward_into back_into

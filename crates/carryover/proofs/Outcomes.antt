@@ -1,6 +1,6 @@
 -- What comes of a call, from what its three tests gave: all pass, and the image is written; or one does not, and the target stays.
 -- Assumes nothing.
-use mathlib.Core.Path.{◌≡◌, refl, sym, ap, ◌∙◌}
+use mathlib.Core.Path.{◌≡◌, refl, ap, ◌∙◌}
 use mathlib.Core.Bool.{Bool, true, false, not}
 use mathlib.Core.List.{List, [], ◌∷◌, ◌++◌}
 use Prim.Native.Nat.{ℕ, ◌≤◌}
@@ -9,14 +9,12 @@ use native.Mathlib.Omega.{arith}
 use lib.Dec.{eqb, leb}
 use lib.ListN.{length, drop}
 use borrow.Author.Tests.{eqb-true, leb-true}
-use denote.Enum.Declared.{tag_of}
-use types.Run.{OneOf, miss}
+use Rattle.std.specs.Prelude.{Ok}
 use Rattle.rules.specs.Images.{image_length}
 use Rattle.causes.specs.FirstCause.{cause, first}
 use Rattle.buffers.specs.Written.{written}
 use Rattle.oldimages.specs.OldImages.{old_length, has_added}
-use Rattle.carryover.specs.CarryOver.{carry_number, carry_answer, forward_answer, back_answer, carried_into, forward_causes, back_causes}
-use Rattle.carryover.specs.declared.CarryAnswer.{CarryAnswer}
+use Rattle.carryover.specs.CarryOver.{CarryAnswer, carry_number, carry_answer, forward_answer, back_answer, carried_into, forward_causes, back_causes}
 
 -- ---- the target
 
@@ -25,30 +23,14 @@ pub front : (image target : List ℕ) → written target 0 image ≡ image ++ dr
 unfolding written
 front image target = rw zero-add
 
--- an answer that is not `Written` leaves the target
-stays : (a : CarryAnswer) (image target : List ℕ) → (a ≡ CarryAnswer.Written → ⊥) → carried_into a image target ≡ target
-stays CarryAnswer.Written image target k = absurd (k refl)
-stays CarryAnswer.SourceLength image target k = refl
-stays CarryAnswer.AddedBytes image target k = refl
-stays CarryAnswer.TargetLength image target k = refl
-
--- what is promised of a call that has this answer, whose number is that: the answer, the target after it, and the answer's number
-module _ (answer : CarryAnswer) (n : ℕ) (number : carry_number answer ≡ n) (image target : List ℕ) where
-  abbrev Promised : CarryAnswer → List ℕ → Type 0
-  Promised a after = ((a ≡ answer) × (after ≡ carried_into answer image target)) × (carry_number a ≡ n)
-
-  into : (a : CarryAnswer) → a ≡ answer → carried_into a image target ≡ carried_into answer image target
-  into a e = ap (λ (k : CarryAnswer). carried_into k image target) e
-
-  pub refused : (a : CarryAnswer) → a ≡ answer → (a ≡ CarryAnswer.Written → ⊥) → Promised a target
-  refused a e k = ((e, sym (stays a image target k) ∙ into a e), ap carry_number e ∙ number)
-
-  pub carried : answer ≡ CarryAnswer.Written → (after : List ℕ) → after ≡ image ++ drop (length image) target → Promised CarryAnswer.Written after
-  carried e after bytes = ((sym e, bytes ∙ into CarryAnswer.Written (sym e)), ap carry_number (sym e) ∙ number)
+-- the answer of a call and the target after it, by the answer that its tests gave
+pub promised : (answer a : CarryAnswer) (image target after : List ℕ) → a ≡ answer → after ≡ carried_into a image target
+    → (a ≡ answer) × (after ≡ carried_into answer image target)
+promised answer a image target after e left = (e, left ∙ ap (λ (k : CarryAnswer). carried_into k image target) e)
 
 -- ---- the tests
 
-passed : (measured added room : Bool) → carry_answer measured added room ≡ CarryAnswer.Written → (measured ≡ true) × (added ≡ true) × (room ≡ true)
+passed : (measured added room : Bool) → carry_answer measured added room ≡ Ok tt → (measured ≡ true) × (added ≡ true) × (room ≡ true)
 passed true true true e = (refl, refl, refl)
 passed true true false e = absurd (omega (arith, ap carry_number e))
 passed true false room e = absurd (omega (arith, ap carry_number e))
@@ -56,7 +38,7 @@ passed false added room e = absurd (omega (arith, ap carry_number e))
 
 -- where nothing is refused: the lengths, and the test between them
 pub clear : (source target : List ℕ) (from to : ℕ) (added : Bool)
-    → carry_answer (eqb (length source) from) added (leb to (length target)) ≡ CarryAnswer.Written → (length source ≡ from) × (added ≡ true) × (to ≤ length target)
+    → carry_answer (eqb (length source) from) added (leb to (length target)) ≡ Ok tt → (length source ≡ from) × (added ≡ true) × (to ≤ length target)
 clear source target from to added e =
     let tests = passed (eqb (length source) from) added (leb to (length target)) e in
     (eqb-true (length source) from tests.0, tests.1, leb-true to (length target) tests.2)

@@ -1,10 +1,10 @@
 -- Spec 9.5 to 9.8: images carried over from the old firmware, from before the recovery count and frequency droop, and back to it.
 -- Assumes nothing.
-use Rattle.std.specs.Prelude.{Bool, true, false, not, List, [], ◌∷◌, ◌++◌, ℕ, eqb, leb, length, take, drop}
+use Rattle.std.specs.Prelude.{Result, Ok, Err, Bool, true, false, not, List, [], ◌∷◌, ◌++◌, ℕ, eqb, leb, length, take, drop}
 use Rattle.rules.specs.Images.{image_length}
 use Rattle.causes.specs.FirstCause.{Cause, cause}
 use Rattle.oldimages.specs.OldImages.{old_length, added_bytes, has_added}
-use Rattle.carryover.specs.declared.CarryAnswer.{CarryAnswer}
+use Rattle.carryover.specs.declared.CarryRefusal.{CarryRefusal}
 
 -- ---- the two images
 
@@ -18,19 +18,23 @@ carried_back source = take old_length source
 
 -- ---- the answer
 
+-- nothing, or why the image is refused
+abbrev pub CarryAnswer : Type 0
+CarryAnswer = Result Unit CarryRefusal
+
 -- the number that an answer gives, 0 where nothing is refused
 abbrev pub carry_number : CarryAnswer → ℕ
-carry_number CarryAnswer.Written = 0
-carry_number CarryAnswer.SourceLength = 10
-carry_number CarryAnswer.AddedBytes = 11
-carry_number CarryAnswer.TargetLength = 9
+carry_number (Ok done) = 0
+carry_number (Err CarryRefusal.SourceLength) = 10
+carry_number (Err CarryRefusal.AddedBytes) = 11
+carry_number (Err CarryRefusal.TargetLength) = 9
 
 -- spec 9.8: from three tests: the source has its length; behind the old bytes stands what carrying forward appends; the target has room
 abbrev pub carry_answer : Bool → Bool → Bool → CarryAnswer
-carry_answer false added room = CarryAnswer.SourceLength
-carry_answer true false room = CarryAnswer.AddedBytes
-carry_answer true true false = CarryAnswer.TargetLength
-carry_answer true true true = CarryAnswer.Written
+carry_answer false added room = Err CarryRefusal.SourceLength
+carry_answer true false room = Err CarryRefusal.AddedBytes
+carry_answer true true false = Err CarryRefusal.TargetLength
+carry_answer true true true = Ok tt
 
 -- nothing stands behind the bytes of an old image, so there is no second test
 unfoldable pub forward_answer : List ℕ → List ℕ → CarryAnswer
@@ -43,10 +47,8 @@ back_answer source target = carry_answer (eqb (length source) image_length) (has
 
 -- the image at its front, and the bytes behind it as they were; spec 11.4: a refused call leaves all of it
 abbrev pub carried_into : CarryAnswer → List ℕ → List ℕ → List ℕ
-carried_into CarryAnswer.Written image target = image ++ drop (length image) target
-carried_into CarryAnswer.SourceLength image target = target
-carried_into CarryAnswer.AddedBytes image target = target
-carried_into CarryAnswer.TargetLength image target = target
+carried_into (Ok done) image target = image ++ drop (length image) target
+carried_into (Err why) image target = target
 
 unfoldable pub forward_into : List ℕ → List ℕ → List ℕ
 forward_into source target = carried_into (forward_answer source target) (carried_forward source) target

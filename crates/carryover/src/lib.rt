@@ -5,27 +5,27 @@ ghost use Rattle.std.specs.Prelude.{◌≡◌};
 ghost use Rattle.causes.specs.FirstCause.{first};
 ghost use Rattle.carryover.specs.CarryOver.{carry_number, carry_answer, forward_answer, back_answer, forward_into, back_into, forward_causes, back_causes};
 
-use oldimages::{OLD_LENGTH, copy_old, has_added};
-use rules::{IMAGE_LENGTH, RECOVERY_TOP};
+use oldimages::{ADDED, OLD_LENGTH, copy_old, has_added};
+use rules::IMAGE_LENGTH;
 
-// What carrying an image over answers; `carry_number` of specs/ gives each case its number.
-#[derive(Clone, Copy)]
-pub enum CarryAnswer {
-    Written,
-    SourceLength,
-    AddedBytes,
-    TargetLength,
+// Why an image is not carried over, each with its number (spec 11.1).
+#[derive(Clone, Copy, Debug, PartialEq, Eq)]
+pub enum CarryRefusal {
+    TargetLength = 9,
+    SourceLength = 10,
+    AddedBytes = 11,
 }
 
-// The number of an answer.
+// What carrying an image over answers.
+pub type CarryAnswer = Result<(), CarryRefusal>;
+
+// The number of an answer, 0 where nothing is refused.
 pub fn carry_number(answer: CarryAnswer) -> u8
     ensures { result ≡ carry_number answer }
 {
     match answer {
-        CarryAnswer::Written => 0,
-        CarryAnswer::SourceLength => 10,
-        CarryAnswer::AddedBytes => 11,
-        CarryAnswer::TargetLength => 9,
+        Ok(()) => 0,
+        Err(why) => why as u8,
     }
 }
 
@@ -35,15 +35,15 @@ fn checked(measured: bool, added: bool, room: bool) -> CarryAnswer
     ensures { result ≡ carry_answer measured added room }
 {
     if !measured {
-        return CarryAnswer::SourceLength;
+        return Err(CarryRefusal::SourceLength);
     }
     if !added {
-        return CarryAnswer::AddedBytes;
+        return Err(CarryRefusal::AddedBytes);
     }
     if !room {
-        return CarryAnswer::TargetLength;
+        return Err(CarryRefusal::TargetLength);
     }
-    CarryAnswer::Written
+    Ok(())
 }
 
 // An image of the old firmware as one of this firmware, at the front of a lent target; the bytes behind it are untouched. A refused call
@@ -53,18 +53,14 @@ pub fn forward(source: &[u8], target: &mut [u8]) -> CarryAnswer
         × (target.new ≡ forward_into source.now target.old) }
     ensures result_value { carry_number result ≡ first (forward_causes source.now target.old) }
 {
-    let measured = source.len() == OLD_LENGTH;
-    let room = IMAGE_LENGTH <= target.len();
-    let answer = checked(measured, true, room);
-    let CarryAnswer::Written = answer else {
-        return answer;
-    };
+    checked(
+        source.len() == OLD_LENGTH,
+        true,
+        IMAGE_LENGTH <= target.len(),
+    )?;
     copy_old(source, target);
-    target[OLD_LENGTH] = RECOVERY_TOP;
-    target[46] = 0;
-    target[47] = 0;
-    target[48] = 0;
-    CarryAnswer::Written
+    target[OLD_LENGTH..IMAGE_LENGTH].copy_from_slice(&ADDED);
+    Ok(())
 }
 
 // An image of this firmware that has what carrying forward appends as one of the old firmware, at the front of a lent target; likewise.
@@ -73,13 +69,11 @@ pub fn back(source: &[u8], target: &mut [u8]) -> CarryAnswer
         × (target.new ≡ back_into source.now target.old) }
     ensures result_value { carry_number result ≡ first (back_causes source.now target.old) }
 {
-    let measured = source.len() == IMAGE_LENGTH;
-    let added = has_added(source);
-    let room = OLD_LENGTH <= target.len();
-    let answer = checked(measured, added, room);
-    let CarryAnswer::Written = answer else {
-        return answer;
-    };
+    checked(
+        source.len() == IMAGE_LENGTH,
+        has_added(source),
+        OLD_LENGTH <= target.len(),
+    )?;
     copy_old(source, target);
-    CarryAnswer::Written
+    Ok(())
 }

@@ -3,7 +3,7 @@
 
 mod sheets;
 
-use rules::{Answer, Board, Saved, Sensed, Settings, refusal_number};
+use rules::{Answer, Board, Saved, Settings, refusal_number};
 use sheets::sheets;
 use shown::{sheet, show};
 use std::io;
@@ -18,16 +18,16 @@ fn wide8(x: u8) -> u64 {
 
 fn volts_of(code: u32) -> u64 {
     match sensing::sense(code) {
-        Sensed::Volts(v) => wide16(v),
-        Sensed::Refused(cause) => 1000000 + refusal_number(cause) as u64,
+        Ok(v) => wide16(v),
+        Err(cause) => 1000000 + refusal_number(cause) as u64,
     }
 }
 
 // The status that an answer shows, or 100 and the refusal's number.
 fn status_of(answer: Answer) -> u64 {
     match answer {
-        Answer::Reported(r) => wide8(r.status),
-        Answer::Refused(cause) => 100 + refusal_number(cause) as u64,
+        Ok(r) => wide8(r.status),
+        Err(cause) => 100 + refusal_number(cause) as u64,
     }
 }
 
@@ -45,11 +45,8 @@ fn status_above_ov2(n: u32) -> u64 {
     let calm = [1000, 1000, 1000, 60000, 1, 10000, 10000];
     let mut t = service::step::step(service::fresh(), s, &calm);
     let high = [1441, 1441, 1441, 60000, 1, 10000, 10000];
-    let mut i: u32 = 0;
-    while i < n {
-        let b = t.board;
-        t = service::step::step(b, s, &high);
-        i += 1;
+    for _ in 0..n {
+        t = service::step::step(t.board, s, &high);
     }
     let answer = t.answer;
     status_of(answer)
@@ -57,8 +54,8 @@ fn status_above_ov2(n: u32) -> u64 {
 
 fn saved_number(answer: Saved) -> u64 {
     match answer {
-        Saved::Written => 0,
-        Saved::Refused(cause) => refusal_number(cause) as u64,
+        Ok(()) => 0,
+        Err(cause) => refusal_number(cause) as u64,
     }
 }
 
@@ -75,10 +72,8 @@ fn exporting() -> Board {
 }
 
 fn show_bytes(rt: &impl Print, bytes: &[u8]) -> io::Result<()> {
-    let mut i = 0;
-    while i < bytes.len() {
-        show(rt, b"byte ", wide8(bytes[i]))?;
-        i += 1;
+    for byte in bytes {
+        show(rt, b"byte ", wide8(*byte))?;
     }
     Ok(())
 }

@@ -27,13 +27,13 @@ fn check_of(s: &[u8]) -> SettingsCheck
 // The number and the line of a check, both 0 where it is accepted.
 fn show_check(rt: &impl Print, check: SettingsCheck) -> io::Result<()> {
     match check {
-        SettingsCheck::Accepted => {
+        Ok(()) => {
             show(rt, b"  number: ", 0)?;
             show(rt, b"  line: ", 0)
         }
-        SettingsCheck::Refused(cause, line) => {
-            show(rt, b"  number: ", refusal_number(cause) as u64)?;
-            show(rt, b"  line: ", line as u64)
+        Err(refused) => {
+            show(rt, b"  number: ", refusal_number(refused.cause) as u64)?;
+            show(rt, b"  line: ", refused.line as u64)
         }
     }
 }

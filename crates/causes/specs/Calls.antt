@@ -1,6 +1,6 @@
 -- Spec 5.6, 12.1 to 12.3: any program that could be called a board; lists of step calls on one record, and the accepted samples among them.
 -- Assumes nothing.
-use Rattle.std.specs.Prelude.{◌≡◌, Bool, false, cond, ◌&&◌, ◌⊎◌, List, [], ◌∷◌, ℕ, pos}
+use Rattle.std.specs.Prelude.{◌≡◌, Bool, false, cond, ◌&&◌, ◌⊎◌, List, [], ◌∷◌, ℕ, pos, Ok, Err}
 use Rattle.rules.specs.Sensing.{sensed_by}
 use Rattle.rules.specs.Settings.{settings_check, settings_accepted}
 use Rattle.rules.specs.Samples.{Slice, Equipment, sample_accepted}
@@ -12,10 +12,7 @@ use Rattle.rules.specs.Images.{save_check, saved_into}
 use Rattle.rules.specs.declared.Settings.{Settings}
 use Rattle.rules.specs.declared.Board.{Board}
 use Rattle.rules.specs.declared.Report.{Report}
-use Rattle.rules.specs.declared.SettingsCheck.{SettingsCheck}
-use Rattle.rules.specs.declared.Sensed.{Sensed}
-use Rattle.rules.specs.declared.Saved.{Saved}
-use Rattle.rules.specs.declared.Answer.{Answer}
+use Rattle.rules.specs.Answers.{SettingsCheck, Sensed, Saved, Answer}
 use Rattle.rules.specs.declared.Stepped.{Stepped}
 
 -- a step call: the settings and the slice that it lends beside the record
@@ -55,8 +52,8 @@ pub record Run : Type 0 where
 
 -- a refused call gives no report: the last one stands
 abbrev pub last_report : Report → Answer → Report
-last_report old (Answer.Reported new) = new
-last_report old (Answer.Refused cause) = old
+last_report old (Ok new) = new
+last_report old (Err cause) = old
 
 -- spec 12.1: every call gets the record as the call before left it
 abbrev pub called : Program → Run → Call → Run

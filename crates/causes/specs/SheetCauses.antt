@@ -1,7 +1,7 @@
 -- Demand 1, for reading a sheet (spec 3.7 to 3.10, 13.1), as a claim about any reading. Each line's causes stand by themselves, by the line's
 -- place in the text and not by a run of the reader. Lines are counted from 0.
 -- Assumes nothing.
-use Rattle.std.specs.Prelude.{◌≡◌, true, false, cond, not, List, [], ◌∷◌, map, ◌↔◌, ℕ, zero, suc, ◌+◌, ◌≤◌, ◌<◌, ℤ, length, get_or, drop}
+use Rattle.std.specs.Prelude.{◌≡◌, true, false, cond, not, List, [], ◌∷◌, map, ◌↔◌, ℕ, zero, suc, ◌+◌, ◌≤◌, ◌<◌, ℤ, length, get_or, drop, Ok}
 use Rattle.std.proofs.Math.Option.{Option, none, some}
 use Rattle.rules.specs.Tests.{all}
 use Rattle.rules.specs.Text.{first_line, has_feed, after_line}
@@ -9,7 +9,6 @@ use Rattle.rules.specs.Forms.{sheet_forms, numbers_of}
 use Rattle.rules.specs.Settings.{Pair, Row, row, rows, in_row, rising, sheet_lines}
 use Rattle.rules.specs.Refusals.{settings_number, line_of}
 use Rattle.rules.specs.Sheets.{SheetReading, pairs, settings_of}
-use Rattle.rules.specs.declared.SettingsCheck.{SettingsCheck}
 use Rattle.causes.specs.FirstCause.{Cause, cause, first}
 
 -- ---- a line of a text
@@ -60,9 +59,9 @@ pub record FirstCauseAt (s : List ℕ) (i n : ℕ) : Type 0 where
 -- the line's first cause, in the order of spec 3.7; and accepts exactly when no line has a cause
 pub record SheetsRefusedRightly (read : List ℕ → SheetReading) (handed : List ℕ → List ℕ) : Type 0 where
   pub refuses : (s : List ℕ) (i n : ℕ) → 0 < n → ((settings_number (read s).check ≡ n) × (line_of (read s).check ≡ i + 1)) ↔ FirstCauseAt s i n
-  pub accepts : (s : List ℕ) → ((read s).check ≡ SettingsCheck.Accepted) ↔ ((i : ℕ) → i < sheet_lines → line_cause i s ≡ 0)
+  pub accepts : (s : List ℕ) → ((read s).check ≡ Ok tt) ↔ ((i : ℕ) → i < sheet_lines → line_cause i s ≡ 0)
   -- the settings of an accepted sheet are its thirteen lines' numbers, those of a refused one all 0
-  pub settings : (s : List ℕ) → (read s).check ≡ SettingsCheck.Accepted
+  pub settings : (s : List ℕ) → (read s).check ≡ Ok tt
       → (read s).settings ≡ settings_of (map (λ i. line_pairs i s) (0 ∷ 1 ∷ 2 ∷ 3 ∷ 4 ∷ 5 ∷ 6 ∷ 7 ∷ 8 ∷ 9 ∷ 10 ∷ 11 ∷ 12 ∷ []))
   pub no-settings : (s : List ℕ) → 0 < settings_number (read s).check → (read s).settings ≡ settings_of []
   -- spec 3.9: the part handed back begins where the text has that line, which is inside it, and at the end where there is none; of an accepted
@@ -70,6 +69,6 @@ pub record SheetsRefusedRightly (read : List ℕ → SheetReading) (handed : Lis
   pub place : (s : List ℕ) (i n : ℕ) → 0 < n → FirstCauseAt s i n → drop (read s).start s ≡ from_line i s
   pub inside : (s : List ℕ) → (read s).start ≤ length s
   pub missing : (s : List ℕ) (i n : ℕ) → 0 < n → FirstCauseAt s i n → from_line i s ≡ [] → (read s).start ≡ length s
-  pub follows : (s : List ℕ) → (read s).check ≡ SettingsCheck.Accepted → drop (read s).start s ≡ from_line sheet_lines s
+  pub follows : (s : List ℕ) → (read s).check ≡ Ok tt → drop (read s).start s ≡ from_line sheet_lines s
   pub back : (s : List ℕ) (i n : ℕ) → 0 < n → FirstCauseAt s i n → handed s ≡ first_line (from_line i s)
-  pub rest : (s : List ℕ) → (read s).check ≡ SettingsCheck.Accepted → handed s ≡ from_line sheet_lines s
+  pub rest : (s : List ℕ) → (read s).check ≡ Ok tt → handed s ≡ from_line sheet_lines s

@@ -1,7 +1,7 @@
 -- Demand 2 of what is printed (spec 10.3 to 10.7, 13.2), as a claim about any program from input to output: a refused sheet's refusal line and
 -- nothing else; or an answer for each line after the sheet, by the accepted samples among the lines alone.
 -- Assumes nothing.
-use Rattle.std.specs.Prelude.{◌≡◌, Bool, true, false, cond, ◌&&◌, ◌⊎◌, ◌↔◌, List, [], ◌∷◌, ◌++◌, map, ℕ, ◌+◌, ◌<◌, eqb, ℤ, nat_abs, length, get_or, take}
+use Rattle.std.specs.Prelude.{◌≡◌, Bool, true, false, cond, ◌&&◌, ◌⊎◌, ◌↔◌, List, [], ◌∷◌, ◌++◌, map, ℕ, ◌+◌, ◌<◌, eqb, ℤ, nat_abs, length, get_or, take, Ok}
 use Rattle.std.proofs.Math.Option.{Option, none, some}
 use Rattle.rules.specs.Text.{bytes}
 use Rattle.rules.specs.Forms.{sample_form, numbers_of}
@@ -15,7 +15,7 @@ use Rattle.rules.specs.Transcripts.{Line, ended, unended, lines_in, report_line,
 use Rattle.rules.specs.declared.Settings.{Settings}
 use Rattle.rules.specs.declared.Refusal.{Refusal}
 use Rattle.rules.specs.declared.Region.TheVariants.{Continuous}
-use Rattle.rules.specs.declared.SettingsCheck.{SettingsCheck}
+use Rattle.rules.specs.Answers.{settings_refused}
 use Rattle.claims.specs.Held.{RanOut, WaitFull}
 use Rattle.causes.specs.FirstCause.{Cause, cause, first, sample_causes}
 
@@ -140,8 +140,8 @@ read_part input = take input_end input
 -- of a program that prints a text for each input
 pub record PrintsByHistory (e : Equipment) (print : List ℕ → List ℕ) : Type 0 where
   -- spec 10.6: where the sheet is refused, its refusal line and nothing else
-  pub sheet-refused : (input : List ℕ) (why : Refusal) (line : ℕ) → (read_sheet (read_part input)).check ≡ SettingsCheck.Refused why line
+  pub sheet-refused : (input : List ℕ) (why : Refusal) (line : ℕ) → (read_sheet (read_part input)).check ≡ settings_refused why line
       → print input ≡ refused_line (refusal_number why) line
   -- where it is accepted, what should be printed for the lines after it
-  pub sheet-accepted : (input : List ℕ) → (read_sheet (read_part input)).check ≡ SettingsCheck.Accepted
+  pub sheet-accepted : (input : List ℕ) → (read_sheet (read_part input)).check ≡ Ok tt
       → Printed e (read_sheet (read_part input)).settings (lines_in (handed_back (read_part input))) (print input)

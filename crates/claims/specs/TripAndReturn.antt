@@ -1,6 +1,6 @@
 -- Demand 2 (spec 13.2), as a claim about any program that could be called a board.
 -- Assumes nothing.
-use Rattle.std.specs.Prelude.{◌≡◌, true, false, ◌⊎◌, ◌↔◌, List, [], ◌∷◌, ◌++◌, map, ℕ, min}
+use Rattle.std.specs.Prelude.{◌≡◌, true, false, ◌⊎◌, ◌↔◌, List, [], ◌∷◌, ◌++◌, map, ℕ, min, Ok}
 use Rattle.rules.specs.Settings.{settings_accepted}
 use Rattle.rules.specs.Samples.{Slice, Equipment, permitted}
 use Rattle.rules.specs.Counters.{Rule, counted, full, rules}
@@ -12,7 +12,7 @@ use Rattle.rules.specs.Records.{fresh, settled}
 use Rattle.rules.specs.History.{History, streak, serving, climbed, history_recovery, history_held, history_report}
 use Rattle.rules.specs.declared.Settings.{Settings}
 use Rattle.rules.specs.declared.Board.{Board}
-use Rattle.rules.specs.declared.Answer.{Answer}
+use Rattle.rules.specs.Answers.{Answer}
 use Rattle.rules.specs.declared.Region.TheVariants.{Continuous}
 use Rattle.causes.specs.Calls.{Call, Program, called, run_of, call_accepted, accepted_samples, LendsUnder, Under}
 use Rattle.claims.specs.Held.{Held, RanOut, WaitFull}
@@ -55,7 +55,7 @@ Shows e p st = (cs : List Call) → Under st cs → (run_of p cs).report ≡ rep
 -- an accepted sample is answered, with the report that the accepted samples alone give
 abbrev pub Answers : Equipment → Program → Settings → Type 0
 Answers e p st =
-    (cs : List Call) (c : Call) → Next st cs c → answer_to p cs c ≡ Answer.Reported (report_of (history_report e st (c.slice ∷ accepted_samples cs)))
+    (cs : List Call) (c : Call) → Next st cs c → answer_to p cs c ≡ Ok (report_of (history_report e st (c.slice ∷ accepted_samples cs)))
 
 -- a call is refused by the number of its first cause, and only then
 abbrev pub Refuses : Program → Settings → Type 0

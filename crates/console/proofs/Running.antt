@@ -7,11 +7,9 @@ use mathlib.Core.Logic.{◌⊎◌, inl, inr}
 use Prim.Native.Nat.{ℕ, zero, suc, ◌+◌, ◌*◌, ◌-◌, ◌≤◌, ◌<◌, min}
 use native.Mathlib.Omega.{arith}
 use borrow.Author.Tests.{ltb-true}
-use lib.IntN.{ℤ, pos, negsuc}
 use lib.ListN.{length, take, drop, length-append, length-drop}
 use lib.Seq.{length-take-le, take-add}
-use lib.Signed.{lt_z}
-use Rattle.std.specs.Prelude.{Option}
+use Rattle.std.specs.Prelude.{Option, Some, None, is_none}
 use Rattle.std.specs.Io.KnownBytes.{Appends, Consumes, IsAtEnd}
 use Rattle.std.proofs.KnownBytes.{Consumes-nil, Consumes-trans}
 use Rattle.rules.specs.Samples.{Equipment}
@@ -68,14 +66,14 @@ turning-first e from to buf q i h s u v =
 
 -- ---- after a read
 
-clamped-most : (a : ℤ) (n : ℕ) → clamp_len a n ≤ n
-clamped-most (pos k) n = omega arith
-clamped-most (negsuc k) n = omega arith
+clamped-most : (a : Option ℕ) (n : ℕ) → clamp_len a n ≤ n
+clamped-most (Some k) n = omega arith
+clamped-most None n = omega arith
 
 -- a negative answer brings nothing
-clamped-failed : (a : ℤ) (n : ℕ) → lt_z a (pos 0) ≡ true → clamp_len a n ≡ 0
-clamped-failed (pos k) n p = let h = ltb-true k 0 p in absurd (omega arith)
-clamped-failed (negsuc k) n p = refl
+clamped-failed : (a : Option ℕ) (n : ℕ) → is_none a ≡ true → clamp_len a n ≡ 0
+clamped-failed (Some k) n p = absurd (false≢true p)
+clamped-failed None n p = refl
 
 -- what is known in a turn after its read, which left b in the buffer
 pub record Brought (e : Equipment) (from to : Option (List ℕ)) (state : State) (have : ℕ) (i : Input) (handed : Handed) (b : List ℕ)

@@ -2,7 +2,6 @@
 #![tactic(auto)]
 
 ghost use Rattle.std.specs.Prelude.{◌≡◌, true, []};
-ghost use Rattle.rules.specs.Settings.{settings_accepted};
 ghost use Rattle.rules.specs.Counters.{counted, full};
 ghost use Rattle.rules.specs.Records.{each};
 ghost use Rattle.rules.specs.Reports.{packed_after};
@@ -12,6 +11,7 @@ ghost use Rattle.counting.specs.Counting.{enters};
 use counting::{count, counts, marked, top};
 use readings::reading::Reading;
 use rules::Settings;
+use settings::Accepted;
 
 // The counters, and the bits of those passed as one number.
 #[derive(Clone, Copy)]
@@ -22,12 +22,11 @@ pub struct Counters {
 
 // The counters and bits of a reading in the enter-service range: under accepted settings no limit is broken there, so the eight are 0,
 // below their tops, and the ninth counts.
-fn count_ninth(old: [u32; 9], s: Settings) -> Counters
-    requires { settings_accepted s ≡ true }
-    ensures n_value { (r : Reading) → enters r s ≡ true → result.n ≡ each (counted []) (rules_at r s) old }
-    ensures bits_value { (r : Reading) → result.bits ≡ packed_after 0 (each full (rules_at r s) result.n) }
+fn count_ninth(old: [u32; 9], s: Accepted) -> Counters
+    ensures n_value { (r : Reading) → enters r s.settings ≡ true → result.n ≡ each (counted []) (rules_at r s.settings) old }
+    ensures bits_value { (r : Reading) → result.bits ≡ packed_after 0 (each full (rules_at r s.settings) result.n) }
 {
-    let most = top(s, 8);
+    let most = top(s.settings, 8);
     let n = count(true, most, old[8]);
     let mut c = Counters {
         n: [0; 9],
@@ -37,7 +36,7 @@ fn count_ninth(old: [u32; 9], s: Settings) -> Counters
     c
 }
 
-// The counters and bits one by one.
+// The counters and bits one by one. The loop goes by the number of a counter, since `top` and `counts` take it.
 fn count_each(old: [u32; 9], r: Reading, s: Settings) -> Counters
     ensures n_value { result.n ≡ each (counted []) (rules_at r s) old }
     ensures bits_value { result.bits ≡ packed_after 0 (each full (rules_at r s) result.n) }
@@ -53,13 +52,13 @@ fn count_each(old: [u32; 9], r: Reading, s: Settings) -> Counters
 }
 
 // All nine counters after the sample, and their bits. The loop is for readings outside the enter-service range.
-pub fn count_all(inside: bool, old: [u32; 9], r: Reading, s: Settings) -> Counters
-    requires { (settings_accepted s ≡ true) × (inside ≡ enters r s) }
-    ensures n_value { result.n ≡ each (counted []) (rules_at r s) old }
-    ensures bits_value { result.bits ≡ packed_after 0 (each full (rules_at r s) result.n) }
+pub fn count_all(inside: bool, old: [u32; 9], r: Reading, s: Accepted) -> Counters
+    requires { inside ≡ enters r s.settings }
+    ensures n_value { result.n ≡ each (counted []) (rules_at r s.settings) old }
+    ensures bits_value { result.bits ≡ packed_after 0 (each full (rules_at r s.settings) result.n) }
 {
     if inside {
         return count_ninth(old, s);
     }
-    count_each(old, r, s)
+    count_each(old, r, s.settings)
 }

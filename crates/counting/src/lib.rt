@@ -4,25 +4,18 @@
 ghost use Rattle.std.specs.Prelude.{◌≡◌, cond, suc, ◌+◌, ◌*◌, ◌<◌, min, eqb};
 ghost use Rattle.counting.specs.Counting.{enters, hit_at, top_at};
 
-use numbers::within;
 use readings::reading::Reading;
 use rules::Settings;
 
 // The enter-service criteria (spec 6.4).
+#[tactic(auto, unfolding(crate::specs::Counting::enters, rules::specs::Tests::all, rules::specs::Tests::within))]
 pub fn in_range(r: Reading, s: Settings) -> bool
     ensures { result ≡ enters r s }
 {
-    let permit = r.permit;
-    if !permit {
-        return false;
-    }
-    if !within(s.volts.low, s.volts.high, r.low) {
-        return false;
-    }
-    if !within(s.volts.low, s.volts.high, r.high) {
-        return false;
-    }
-    within(s.hertz.low, s.hertz.high, r.frequency)
+    r.permit
+        && (s.volts.low..=s.volts.high).contains(&r.low)
+        && (s.volts.low..=s.volts.high).contains(&r.high)
+        && (s.hertz.low..=s.hertz.high).contains(&r.frequency)
 }
 
 // Whether counter i counts this reading: limit i is broken, always strictly; the ninth by the enter-service criteria.
@@ -30,16 +23,12 @@ pub fn counts(r: Reading, s: Settings, i: usize) -> bool
     requires { i < 9 }
     ensures { result ≡ hit_at r s i }
 {
-    if 8 <= i {
-        return in_range(r, s);
-    }
-    let l = s.trip[i];
-    let level = l.level;
     match i {
-        0 | 1 => r.low < level,
-        2 | 3 => level < r.high,
-        4 | 5 => r.frequency < level,
-        _ => level < r.frequency,
+        0 | 1 => r.low < s.trip[i].level,
+        2 | 3 => s.trip[i].level < r.high,
+        4 | 5 => r.frequency < s.trip[i].level,
+        6 | 7 => s.trip[i].level < r.frequency,
+        _ => in_range(r, s),
     }
 }
 
@@ -49,21 +38,22 @@ pub fn top(s: Settings, i: usize) -> u32
     ensures { result ≡ top_at s i }
 {
     if i < 8 {
-        let l = s.trip[i];
-        return l.clearing;
+        s.trip[i].clearing
+    } else {
+        s.wait.max(1)
     }
-    let wait = s.wait;
-    if wait == 0 { 1 } else { wait }
 }
 
 // One more if the sample counts, up to the top; otherwise 0.
 pub fn count(hit: bool, top: u32, old: u32) -> u32
     ensures { result ≡ cond hit (min top (suc old)) 0 }
 {
-    if hit {
-        if old < top { old + 1 } else { top }
-    } else {
+    if !hit {
         0
+    } else if old < top {
+        old + 1
+    } else {
+        top
     }
 }
 
@@ -72,5 +62,5 @@ pub fn marked(bits: u16, n: u32, top: u32) -> u16
     requires { bits < 4096 }
     ensures { result ≡ 2 * bits + cond (eqb n top) 1 0 }
 {
-    if n == top { 2 * bits + 1 } else { 2 * bits }
+    2 * bits + u16::from(n == top)
 }

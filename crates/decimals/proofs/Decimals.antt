@@ -2,18 +2,17 @@
 -- Assumes nothing.
 use mathlib.Core.Path.{◌≡◌, refl, sym, ap, ◌∙◌}
 use mathlib.Core.List.{List, [], ◌∷◌, ◌++◌, append_assoc}
-use Prim.Native.Nat.{ℕ, zero, suc, ◌+◌, ◌*◌, ◌/◌, ◌%◌, ◌^◌, ◌≤◌, ◌<◌}
+use Prim.Native.Nat.{ℕ, zero, suc, ◌+◌, ◌/◌, ◌%◌, ◌^◌, ◌≤◌, ◌<◌}
 use native.Mathlib.Decide.{dec_le}
 use native.Mathlib.Nat.{pow-suc, lt_of_not-le}
 use native.Mathlib.Omega.{arith}
 use borrow.Author.Tests.{lt-ltb, le-ltb}
-use lib.Arith.{mod-mul}
 use lib.ListN.{length, length-append}
 use mir.Syntax.{w64}
 use mir.Val.{Fits}
 use Rattle.basics.proofs.Digits.{last-only}
 use Rattle.rules.specs.Text.{digits_before, decimal}
-use Rattle.decimals.specs.Decimals.{two_digits}
+use Rattle.buffers.specs.Digits.{digits_in}
 
 -- 20 digits write every number of 64 bits
 pub below : {n : ℕ} → Fits w64 n → n < 10 ^ 20
@@ -59,19 +58,6 @@ more-digits n h below =
     last_then 19 n [] h ∙ digits-then 19 (n / 10) ((48 + n % 10) ∷ [])
     ∙ ap (λ (l : List ℕ). l ++ ((48 + n % 10) ∷ [])) (sym (enough 18 (n / 10) [] (tenth-below 19 n below)))
 
--- two digits at a time
-pub two-digits : (n : ℕ) → 10 ≤ n → n < 100 → decimal n ≡ two_digits n
-two-digits n h small = more-digits n h (omega arith) ∙ rw (one-digit (n / 10) (omega arith))
-
-pub pair-more : (n : ℕ) → 100 ≤ n → n < 10 ^ 20 → decimal n ≡ decimal (n / 100) ++ two_digits (n % 100)
-pair-more n h below =
-    let two : n % 100 ≡ (n / 10 % 10) * 10 + n % 10 = mod-mul n {m = 10} {c = 10} (omega arith) (omega arith) in
-    let ones : n % 100 % 10 ≡ n % 10 = omega (arith, two) in
-    let tens : n % 100 / 10 ≡ n / 10 % 10 = omega (arith, two) in
-    let hundreds : n / 100 ≡ n / 10 / 10 = omega arith in
-    more-digits n (omega arith) below
-    ∙ rw (more-digits (n / 10) (omega arith) (omega arith), append_assoc, ones, tens, hundreds)
-
 pub one-length : (n : ℕ) → n < 10 → length (decimal n) ≡ 1
 one-length n h = ap length (one-digit n h)
 
@@ -93,3 +79,26 @@ decimal-length k n h = omega (arith, digits-length 20 k n [] h)
 
 pub decimal-some : (n : ℕ) → n < 10 ^ 20 → 1 ≤ length (decimal n)
 decimal-some n below = either n (λ h. omega (arith, one-length n h)) (λ h. omega (arith, more-length n h below))
+
+-- a number between two powers of ten has so many digits
+pub digit-count : (k n : ℕ) → n < 10 ^ 20 → 10 ^ k ≤ n → n < 10 ^ suc k → length (decimal n) ≡ suc k
+digit-count zero n small lo hi = one-length n (omega (arith, hi))
+digit-count (suc k) n small lo hi =
+    let tenth : 10 ^ k ≤ n / 10 = omega (arith, pow-suc 10 k, lo) in
+    let more : 10 ≤ n = omega (arith, pow-suc 10 k, pow-suc 10 (suc k), lo, tenth) in
+    omega (arith, more-length n more small, digit-count k (n / 10) (omega arith) tenth (tenth-below (suc k) n hi))
+
+-- a decimal is digits digits in base 10
+pub decimal-is : (k n : ℕ) → n < 10 ^ 20 → length (decimal n) ≡ k → decimal n ≡ digits_in 10 48 k n
+unfolding digits_in
+decimal-is zero n small e = absurd (omega (arith, decimal-some n small))
+decimal-is (suc k) n small e =
+    either n (λ one. let none : k ≡ 0 = omega (arith, one-length n one) in let last : n % 10 ≡ n = omega arith in rw (none, one-digit n one, last) refl)
+    (λ more. more-digits n more small ∙ rw (decimal-is k (n / 10) (omega arith) (omega (arith, more-length n more small))) refl)
+
+-- a number between two powers of ten is so many digits
+pub digits-are : (k n : ℕ) → n < 10 ^ 20 → 10 ^ k ≤ n → n < 10 ^ suc k → decimal n ≡ digits_in 10 48 (suc k) n
+digits-are k n small lo hi = decimal-is (suc k) n small (digit-count k n small lo hi)
+
+pub digit-is : (n : ℕ) → n < 10 → decimal n ≡ digits_in 10 48 1 n
+digit-is n h = decimal-is 1 n (omega arith) (one-length n h)

@@ -1,5 +1,6 @@
 -- The statements of specs/Demands.antt hold.
 -- Assumes nothing.
+use Rattle.std.specs.Prelude.{Ok}
 use mathlib.Core.Path.{◌≡◌, sym, subst⁻¹, ◌∙◌}
 use mathlib.Core.Bool.{true}
 use native.Mathlib.Omega.{arith}
@@ -8,7 +9,6 @@ use Rattle.rules.specs.Sheets.{read_sheet}
 use Rattle.rules.specs.Curves.{curve}
 use Rattle.rules.specs.Settings.{settings_accepted}
 use Rattle.rules.specs.declared.Settings.{Settings}
-use Rattle.rules.specs.declared.SettingsCheck.{SettingsCheck}
 use Rattle.sheetcalls.specs.SheetAnswers.{settings_after}
 use Rattle.rules.specs.Images.{saved_into}
 use Rattle.roots.proofs.Voltages.{voltage-root}
@@ -293,7 +293,7 @@ exported_ramps e sound before = (
 pub exported_under_texts : ExportedUnderTexts
 exported_under_texts e sound old before s zero =
     let sheet = (exported-refuse e).sheet in
-    let read : (read_sheet s).check ≡ SettingsCheck.Accepted = (our_sheet_refusals.accepts s).1 ((sheet.accepted s).0 zero) in
+    let read : (read_sheet s).check ≡ Ok tt = (our_sheet_refusals.accepts s).1 ((sheet.accepted s).0 zero) in
     let stored = sheet.settings-stored s old zero in
     let ok = subst⁻¹ (λ (st : Settings). settings_accepted st ≡ true) stored (sheet-written-out s read).accepted in
     let demands = exported_demands e sound before in

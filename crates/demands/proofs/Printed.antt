@@ -1,5 +1,6 @@
 -- What is printed for an input, its sheet accepted or refused; and which lines have a sample.
 -- Assumes nothing.
+use Rattle.std.specs.Prelude.{Ok, Err}
 use mathlib.Core.Path.{◌≡◌, refl, sym, ap, ◌∙◌}
 use mathlib.Core.Bool.{true}
 use mathlib.Core.List.{List, map}
@@ -14,7 +15,7 @@ use Rattle.rules.specs.Refusals.{refusal_number}
 use Rattle.rules.specs.Sheets.{read_sheet, part_of, handed_back}
 use Rattle.rules.specs.Transcripts.{Line, ended, unended, lines_in, refused_line, answers_to, on_sheet_by, transcript_of_by, transcript_of, transcript_by, transcript}
 use Rattle.rules.specs.declared.Refusal.{Refusal}
-use Rattle.rules.specs.declared.SettingsCheck.{SettingsCheck}
+use Rattle.rules.specs.Answers.{SettingsCheck, settings_refused}
 use Rattle.formats.specs.Samples.{writable, written_sample}
 use Rattle.formats.proofs.Sheets.{sheet-written-out}
 use Rattle.formats.proofs.Samples.{sample-read, sample-written}
@@ -25,7 +26,7 @@ use Rattle.theorems.proofs.Printed.{lines-printed, one-printed}
 
 -- ---- the transcript
 
-module _ (e : Equipment) (s : List ℕ) (a : (read_sheet s).check ≡ SettingsCheck.Accepted) where
+module _ (e : Equipment) (s : List ℕ) (a : (read_sheet s).check ≡ Ok tt) where
   rest-is : handed_back s ≡ drop (read_sheet s).start s
   unfolding handed_back
   rest-is = ap (λ (c : SettingsCheck). part_of c (drop (read_sheet s).start s)) a
@@ -39,7 +40,7 @@ module _ (e : Equipment) (s : List ℕ) (a : (read_sheet s).check ≡ SettingsCh
   text-printed : Sound e → Printed e (read_sheet s).settings (lines_in (handed_back s)) (transcript_of e s)
   text-printed sound = rw answers-are (lines-printed e (read_sheet s).settings (sheet-written-out s a).accepted (lines_in (handed_back s)) sound)
 
-refusal-printed : (e : Equipment) (s : List ℕ) (why : Refusal) (line : ℕ) → (read_sheet s).check ≡ SettingsCheck.Refused why line
+refusal-printed : (e : Equipment) (s : List ℕ) (why : Refusal) (line : ℕ) → (read_sheet s).check ≡ settings_refused why line
     → transcript_of e s ≡ refused_line (refusal_number why) line
 unfolding transcript_of_by
 refusal-printed e s why line r = ap (λ (c : SettingsCheck). on_sheet_by (answers_to e) (read_sheet s) c s) r
@@ -59,8 +60,8 @@ one-printing e sound print p input = by (read_sheet (read_part input)).check ref
     ours = prints-by-history e sound
 
     by : (c : SettingsCheck) → (read_sheet (read_part input)).check ≡ c → print input ≡ transcript e input
-    by SettingsCheck.Accepted a = one-printed e _ _ (print input) (transcript e input) (p.sheet-accepted input a) (ours.sheet-accepted input a)
-    by (SettingsCheck.Refused why line) r = p.sheet-refused input why line r ∙ sym (ours.sheet-refused input why line r)
+    by (Ok ok) a = one-printed e _ _ (print input) (transcript e input) (p.sheet-accepted input a) (ours.sheet-accepted input a)
+    by (Err away) r = p.sheet-refused input away.cause away.line r ∙ sym (ours.sheet-refused input away.cause away.line r)
 
 -- ---- the sample on a line
 

@@ -22,7 +22,7 @@
 -- voltage regions of spec 6.7, has these facts (`OurEquipmentSound`). A statement of neither name that speaks of an equipment
 -- is said for any. docs/PROOF.md lists the files that define the words of this page.
 -- Assumes nothing.
-use Rattle.std.specs.Prelude.{◌≡◌, true, ◌↔◌, List, ◌∷◌, ℕ, ◌*◌, ◌≤◌, ◌<◌, length, ℤ, pos, nat_abs}
+use Rattle.std.specs.Prelude.{◌≡◌, true, ◌↔◌, List, ◌∷◌, ℕ, ◌*◌, ◌≤◌, ◌<◌, length, ℤ, pos, nat_abs, Ok}
 use Rattle.std.proofs.Math.Option.{some}
 use Rattle.rules.specs.Sensing.{last_code, voltage}
 use Rattle.rules.specs.Settings.{settings_accepted}
@@ -43,7 +43,6 @@ use Rattle.rules.specs.declared.Point.{Point}
 use Rattle.rules.specs.declared.Settings.{Settings}
 use Rattle.rules.specs.declared.Board.{Board}
 use Rattle.rules.specs.declared.Report.{Report}
-use Rattle.rules.specs.declared.SettingsCheck.{SettingsCheck}
 use Rattle.formats.specs.Sheets.{written_sheet, ReadsSheetsBack, AcceptsSheetsOnly, AcceptAlike}
 use Rattle.formats.specs.Marks.{ReadsForms}
 use Rattle.formats.specs.Samples.{writable, written_sample, Answering, AnswersSamples, ReadsBack, BeginsWithSample}
@@ -208,7 +207,7 @@ DefaultSheetWritten = written_sheet default_settings ≡ default_sheet
 -- returns as demand 2 says, and two histories are told apart as demand 3 says.
 abbrev pub UnderAcceptedTexts : Type 0
 UnderAcceptedTexts =
-    (e : Equipment) → Sound e → (s : List ℕ) → (read_sheet s).check ≡ SettingsCheck.Accepted
+    (e : Equipment) → Sound e → (s : List ℕ) → (read_sheet s).check ≡ Ok tt
     → TripAndReturn e (ruled_by e) (read_sheet s).settings × TwoHistoriesBy saved_into (history_report e) (ruled_by e) (read_sheet s).settings
 
 -- The forms of the lines, which tell 1 from 2 and 3: `ReadsForms` in formats/specs/Marks.antt, of the sheet's

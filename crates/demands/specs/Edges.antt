@@ -1,6 +1,6 @@
 -- Spec 14.1: edge values, as rows of one table.
 -- Assumes nothing.
-use Rattle.std.specs.Prelude.{◌≡◌, Bool, true, false, List, [], ◌∷◌, ℕ, ℤ, pos, neg_ℤ}
+use Rattle.std.specs.Prelude.{◌≡◌, Bool, true, false, List, [], ◌∷◌, ℕ, ℤ, pos, neg_ℤ, Ok}
 use Rattle.rules.specs.Settings.{settings_check}
 use Rattle.rules.specs.Samples.{Slice, Equipment}
 use Rattle.rules.specs.Counters.{undervoltage, overvoltage, broken}
@@ -10,7 +10,7 @@ use Rattle.rules.specs.Droop.{side_of, drooped}
 use Rattle.rules.specs.Defaults.{default_settings}
 use Rattle.rules.specs.declared.Settings.{Settings}
 use Rattle.rules.specs.declared.Refusal.TheVariants.{Range}
-use Rattle.rules.specs.declared.SettingsCheck.{SettingsCheck}
+use Rattle.rules.specs.Answers.{settings_refused}
 use Rattle.rules.specs.declared.Region.{Region}
 use Rattle.rules.specs.declared.Region.TheVariants.{Continuous, Mandatory, Momentary, Cease}
 
@@ -50,8 +50,8 @@ pub data Edge : Type 0 where
 -- a row holds of an equipment, by the definitions
 abbrev pub Holds : Equipment → Edge → Type 0
 Holds e (gives code volts) = e.sensing code ≡ volts
-Holds e (ramp_taken ramp) = settings_check (ramp_of ramp) ≡ SettingsCheck.Accepted
-Holds e (ramp_refused ramp) = settings_check (ramp_of ramp) ≡ SettingsCheck.Refused Range 11
+Holds e (ramp_taken ramp) = settings_check (ramp_of ramp) ≡ Ok tt
+Holds e (ramp_refused ramp) = settings_check (ramp_of ramp) ≡ settings_refused Range 11
 Holds e (uv1_broken code b) = broken e undervoltage 8800 (flat code) ≡ b
 Holds e (ov2_broken code b) = broken e overvoltage 12000 (flat code) ≡ b
 Holds e (is_in code region) = region_of e default_settings (flat code) ≡ region

@@ -1,5 +1,6 @@
 -- Without its rules the step is the one that does not ask; so it is refused by the same numbers, and leaves the same.
 -- Assumes nothing.
+use Rattle.std.specs.Prelude.{Ok, Err}
 use mathlib.Core.Path.{◌≡◌, refl, ap, ◌∙◌}
 use mathlib.Core.List.{◌++◌}
 use Prim.Native.Nat.{ℕ}
@@ -10,8 +11,7 @@ use Rattle.rules.specs.Records.{step_of}
 use Rattle.rules.specs.declared.Settings.{Settings}
 use Rattle.rules.specs.declared.Board.{Board}
 use Rattle.rules.specs.declared.Refusal.{Refusal}
-use Rattle.rules.specs.declared.SettingsCheck.{SettingsCheck}
-use Rattle.rules.specs.declared.Answer.{Answer}
+use Rattle.rules.specs.Answers.{Answer, settings_refused}
 use Rattle.rules.specs.declared.Stepped.{Stepped}
 use Rattle.causes.specs.FirstCause.{first, settings_causes, sample_causes}
 use Rattle.laws.proofs.FirstCause.{step-number}
@@ -21,15 +21,14 @@ use Rattle.explain.specs.Explained.{record_status_rule, record_watts_rule, with_
 use Rattle.explain.specs.Explains.{answer_alone, LeavesReports, explained_by}
 use Rattle.reasons.specs.declared.StatusRule.{StatusRule}
 use Rattle.reasons.specs.declared.WattsRule.{WattsRule}
-use Rattle.explain.specs.declared.ExplainedAnswer.{ExplainedAnswer}
 
 pub alone : (status : StatusRule) (watts : WattsRule) (a : Answer) → answer_alone (with_rules status watts a) ≡ a
-alone status watts (Answer.Reported report) = refl
-alone status watts (Answer.Refused cause) = refl
+alone status watts (Ok report) = refl
+alone status watts (Err cause) = refl
 
 pub numbered : (status : StatusRule) (watts : WattsRule) (a : Answer) → explained_number (with_rules status watts a) ≡ answer_number a
-numbered status watts (Answer.Reported report) = refl
-numbered status watts (Answer.Refused cause) = refl
+numbered status watts (Ok report) = refl
+numbered status watts (Err cause) = refl
 
 module _ (e : Equipment) (b : Board) (s : Settings) (x : Slice) where
   pub explained-number : explained_number (explained_step e b s x).answer ≡ first (settings_causes s ++ sample_causes x)
@@ -43,8 +42,8 @@ module _ (e : Equipment) (b : Board) (s : Settings) (x : Slice) where
   explained-from t =
       ap (λ (u : Stepped). record { board = u.board; answer = with_rules (record_status_rule e s x b u.board) (record_watts_rule e s x u.board) u.answer })
 
-  pub explained-refused : (cause : Refusal) (line : ℕ) → settings_check s ≡ SettingsCheck.Refused cause line
-      → explained_step e b s x ≡ record { board = b; answer = ExplainedAnswer.Refused cause }
+  pub explained-refused : (cause : Refusal) (line : ℕ) → settings_check s ≡ settings_refused cause line
+      → explained_step e b s x ≡ record { board = b; answer = Err cause }
   explained-refused cause line k = explained-from _ (settings-refused e s x b cause line k)
 
 pub leaves-reports : (e : Equipment) → LeavesReports e (explained_by e)

@@ -1,5 +1,6 @@
 -- On any lent record the rules beside a report name what they should, by the record and by what the report shows.
 -- Assumes nothing.
+use Rattle.std.specs.Prelude.{Ok, Err}
 use mathlib.Core.Path.{◌≡◌, refl, sym, ap, subst, ◌∙◌}
 use mathlib.Core.Bool.{Bool, true, false, cond, true≢false}
 use mathlib.Core.Logic.{◌↔◌}
@@ -18,7 +19,7 @@ use Rattle.rules.specs.Records.{each, read_as, settled, ruled, next, shown, step
 use Rattle.rules.specs.declared.Settings.{Settings}
 use Rattle.rules.specs.declared.Board.{Board}
 use Rattle.rules.specs.declared.Report.{Report}
-use Rattle.rules.specs.declared.Answer.{Answer}
+use Rattle.rules.specs.Answers.{Answer}
 use Rattle.claims.specs.Bits.{bit_at}
 use Rattle.theorems.proofs.Bits.{bits-unpacked}
 use Rattle.laws.proofs.Statuses.{service-status, kept-service}
@@ -28,7 +29,7 @@ use Rattle.wattsrules.specs.WattsRules.{watts_rule}
 use Rattle.explain.specs.Explains.{answer_alone, StatusNamed, WattsNamed, NamesOnRecords, explained_by}
 use Rattle.reasons.specs.declared.StatusRule.{StatusRule}
 use Rattle.reasons.specs.declared.WattsRule.{WattsRule}
-use Rattle.explain.specs.declared.ExplainedAnswer.{ExplainedAnswer}
+use Rattle.explain.specs.Answers.{ExplainedAnswer, reported_with}
 use Rattle.explain.proofs.Alone.{alone}
 use Rattle.explain.proofs.Stepped as of
 use Rattle.explain.proofs.StatusRules.{status-named}
@@ -37,23 +38,23 @@ use Rattle.explain.proofs.WattsRules.{watts-named}
 -- ---- what an answer holds
 
 abbrev status_in : ExplainedAnswer → StatusRule
-status_in (ExplainedAnswer.Reported r s w) = s
-status_in (ExplainedAnswer.Refused cause) = StatusRule.WaitNotFull
+status_in (Ok given) = given.status
+status_in (Err cause) = StatusRule.WaitNotFull
 
 abbrev watts_in : ExplainedAnswer → WattsRule
-watts_in (ExplainedAnswer.Reported r s w) = w
-watts_in (ExplainedAnswer.Refused cause) = WattsRule.Status
+watts_in (Ok given) = given.watts
+watts_in (Err cause) = WattsRule.Status
 
 -- a report's rules are those that were put beside it
 beside : (status : StatusRule) (watts : WattsRule) (a : Answer) (r : Report) (s : StatusRule) (w : WattsRule)
-    → with_rules status watts a ≡ ExplainedAnswer.Reported r s w → a ≡ Answer.Reported r → (status ≡ s) × (watts ≡ w)
+    → with_rules status watts a ≡ reported_with r s w → a ≡ Ok r → (status ≡ s) × (watts ≡ w)
 beside status watts a r s w k told =
-    let held : ExplainedAnswer.Reported r status watts ≡ ExplainedAnswer.Reported r s w = sym (ap (with_rules status watts) told) ∙ k in
+    let held : reported_with r status watts ≡ reported_with r s w = sym (ap (with_rules status watts) told) ∙ k in
     (ap status_in held, ap watts_in held)
 
 module _ (e : Equipment) (b : Board) (st : Settings) (x : Slice) (r : Report) (s : StatusRule) (w : WattsRule)
-    (k : (explained_step e b st x).answer ≡ ExplainedAnswer.Reported r s w) where
-  told : (step_of e b st x).answer ≡ Answer.Reported r
+    (k : (explained_step e b st x).answer ≡ reported_with r s w) where
+  told : (step_of e b st x).answer ≡ Ok r
   unfolding explained_step
   told = sym (alone _ _ (step_of e b st x).answer) ∙ ap answer_alone k
 

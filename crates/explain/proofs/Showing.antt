@@ -1,5 +1,6 @@
 -- The rules that a board says are those of its history.
 -- Assumes nothing.
+use Rattle.std.specs.Prelude.{Err}
 use mathlib.Core.Path.{◌≡◌, refl, sym, ap, ap₂, fun_ext, ◌∙◌}
 use mathlib.Core.Bool.{Bool, true, false, true≢false}
 use mathlib.Core.Logic.{⊎_elim}
@@ -29,7 +30,7 @@ use Rattle.statusrules.specs.StatusRules.{status_rule, region_cause}
 use Rattle.explain.specs.Explains.{board_alone, explained_by, explained_to, explained_history, ShowsRules}
 use Rattle.reasons.specs.declared.StatusRule.{StatusRule}
 use Rattle.reasons.specs.declared.WattsRule.{WattsRule}
-use Rattle.explain.specs.declared.ExplainedAnswer.{ExplainedAnswer}
+use Rattle.explain.specs.Answers.{reported_with}
 use Rattle.explain.specs.declared.ExplainedStep.{ExplainedStep}
 use Rattle.explain.specs.Numbers.{explained_number}
 use Rattle.explain.proofs.Alone.{explained-number, explained-from, leaves-reports}
@@ -61,17 +62,17 @@ module _ (e : Equipment) (st : Settings) where
   module _ (ok : settings_accepted st ≡ true) where
     fresh-says : (explained_by e).says ≡ explained_history e st []
     unfolding history_status_rule history_watts_rule
-    fresh-says = ap (λ (r : Report). ExplainedAnswer.Reported r StatusRule.WaitNotFull WattsRule.Status) (sym (fresh-is e st ok))
+    fresh-says = ap (λ (r : Report). reported_with r StatusRule.WaitNotFull WattsRule.Status) (sym (fresh-is e st ok))
 
     -- one accepted sample more
     answer-is : (h : History) (x : Slice) → sample_accepted x ≡ true → (explained_step e (record_of e st h) st x).answer ≡ explained_history e st (x ∷ h)
     answer-is h x a =
         let b = record_of e st h in
         ap (λ (t : ExplainedStep). t.answer) (explained-from e b st x _ (accepted-step e b st x ok a))
-        ∙ ap (λ (n : Board). ExplainedAnswer.Reported (report_of (shown e st n)) (record_status_rule e st x b n) (record_watts_rule e st x n)) (next-is e st h x)
-        ∙ ap (λ (i : Items). ExplainedAnswer.Reported (report_of i) (record_status_rule e st x b (record_of e st (x ∷ h))) (record_watts_rule e st x (record_of e st (x ∷ h))))
+        ∙ ap (λ (n : Board). reported_with (report_of (shown e st n)) (record_status_rule e st x b n) (record_watts_rule e st x n)) (next-is e st h x)
+        ∙ ap (λ (i : Items). reported_with (report_of i) (record_status_rule e st x b (record_of e st (x ∷ h))) (record_watts_rule e st x (record_of e st (x ∷ h))))
         (shown-is e st (x ∷ h))
-        ∙ ap₂ (ExplainedAnswer.Reported (report_of (history_report e st (x ∷ h)))) (status-rule-is h x) (watts-rule-is h x)
+        ∙ ap₂ (reported_with (report_of (history_report e st (x ∷ h)))) (status-rule-is h x) (watts-rule-is h x)
 
     run-board : (cs : List Call) → Under st cs → (run_of (board_alone (explained_by e)) cs).board ≡ record_of e st (accepted_samples cs)
     run-board cs u = ap (λ (p : Program). (run_of p cs).board) (board-alone e) ∙ ap (λ (r : Run). r.board) (run_is e st ok cs u)
@@ -85,7 +86,7 @@ module _ (e : Equipment) (st : Settings) where
         (λ bad. absurd (true≢false (sym q.0 ∙ bad))) n.lends
 
     none : (cs : List Call) (c : Call) → Under st cs → call_accepted c ≡ false
-        → (cause : Refusal) × (explained_to (explained_by e) cs c ≡ ExplainedAnswer.Refused cause)
+        → (cause : Refusal) × (explained_to (explained_by e) cs c ≡ Err cause)
         × (refusal_number cause ≡ first (settings_causes c.settings ++ sample_causes c.slice))
     none cs c u bad =
         let b = (run_of (board_alone (explained_by e)) cs).board in

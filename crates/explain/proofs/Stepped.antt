@@ -1,5 +1,6 @@
 -- The rules that are worked out beside a report are those of the record before and after the step.
 -- Assumes nothing.
+use Rattle.std.specs.Prelude.{Ok, Err}
 use mathlib.Core.Path.{◌≡◌, refl, sym, ap, ap₂, subst, ◌∙◌}
 use mathlib.Core.Bool.{Bool, true, false, cond, ◌&&◌}
 use mathlib.Core.List.{List, [], ◌∷◌, ◌++◌}
@@ -23,7 +24,7 @@ use Rattle.rules.specs.Records.{each, capped, read_as, settled, ruled, next, sho
 use Rattle.rules.specs.declared.Settings.{Settings}
 use Rattle.rules.specs.declared.Board.{Board}
 use Rattle.rules.specs.declared.Report.{Report}
-use Rattle.rules.specs.declared.Answer.{Answer}
+use Rattle.rules.specs.Answers.{Answer}
 use Rattle.rules.specs.declared.Stepped.{Stepped}
 use Rattle.causes.specs.Calls.{fresh_report, last_report}
 use Rattle.laws.proofs.Events.{giving-side}
@@ -81,7 +82,7 @@ module _ (e : Equipment) (s : Settings) (x : Slice) (b : Board) (t : Stepped) (q
       ap (λ (k : Answer). record { board = t.board; answer = with_rules (record_status_rule e s x b t.board) (record_watts_rule e s x t.board) k }) (sym told)
       ∙ ap (λ (u : Stepped). record { board = u.board; answer = with_rules (record_status_rule e s x b u.board) (record_watts_rule e s x u.board) u.answer }) q
 
-  module _ (p : Report) (told : t.answer ≡ Answer.Reported p) where
+  module _ (p : Report) (told : t.answer ≡ Ok p) where
     -- only an accepted call is reported
     accepted-call : (settings_accepted s && sample_accepted x) ≡ true
     accepted-call = by (settings_accepted s && sample_accepted x) refl
@@ -90,7 +91,7 @@ module _ (e : Equipment) (s : Settings) (x : Slice) (b : Board) (t : Stepped) (q
         by true a = refl
         by false a =
             let away = refused-step e b s x a in
-            let zero : 0 ≡ answer_number (Answer.Refused away.0)
+            let zero : 0 ≡ answer_number (Err away.0)
             = ap answer_number (sym told ∙ ap (λ (u : Stepped). u.answer) (q ∙ away.1)) in
             absurd (omega (arith, zero, (number-bounds away.0).0))
 
@@ -101,7 +102,7 @@ module _ (e : Equipment) (s : Settings) (x : Slice) (b : Board) (t : Stepped) (q
     accepted = (both (settings_accepted s) (sample_accepted x) accepted-call).1
 
     module _ (ok : settings_accepted s ≡ true) where
-      stepped : t ≡ record { board = next e s x b; answer = Answer.Reported (report_of (shown e s (next e s x b))) }
+      stepped : t ≡ record { board = next e s x b; answer = Ok (report_of (shown e s (next e s x b))) }
       stepped = q ∙ accepted-step e b s x ok accepted
 
       pub left : t.board ≡ next e s x b

@@ -1,6 +1,6 @@
 -- Spec 8.5 to 8.8: which rule held the status of a report, and which held its watts: what a history gives, and what a step gives.
 -- Assumes nothing.
-use Rattle.std.specs.Prelude.{List, [], ◌∷◌, map}
+use Rattle.std.specs.Prelude.{List, [], ◌∷◌, map, Ok, Err}
 use Rattle.rules.specs.Samples.{Slice, Equipment, permitted}
 use Rattle.rules.specs.Counters.{full, trip_rules}
 use Rattle.rules.specs.Service.{Limited, leaves, power_limits, in_service, share_of}
@@ -8,13 +8,13 @@ use Rattle.rules.specs.Records.{each, step_of}
 use Rattle.rules.specs.History.{History, complete, serving, history_status, history_share, history_recovery, history_held, history_vars}
 use Rattle.rules.specs.declared.Settings.{Settings}
 use Rattle.rules.specs.declared.Board.{Board}
-use Rattle.rules.specs.declared.Answer.{Answer}
+use Rattle.rules.specs.Answers.{Answer}
 use Rattle.causes.specs.Calls.{fresh_report}
 use Rattle.statusrules.specs.StatusRules.{region_cause, status_rule}
 use Rattle.wattsrules.specs.WattsRules.{watts_rule}
 use Rattle.reasons.specs.declared.StatusRule.{StatusRule}
 use Rattle.reasons.specs.declared.WattsRule.{WattsRule}
-use Rattle.explain.specs.declared.ExplainedAnswer.{ExplainedAnswer}
+use Rattle.explain.specs.Answers.{ExplainedAnswer, reported_with}
 use Rattle.explain.specs.declared.ExplainedStep.{ExplainedStep}
 
 -- ---- what a history gives: it looks at no record and at no step
@@ -46,8 +46,8 @@ record_watts_rule e st x after =
 
 -- spec 8.5: the rules stand beside a report, and a refused call has none
 abbrev pub with_rules : StatusRule → WattsRule → Answer → ExplainedAnswer
-with_rules status watts (Answer.Reported report) = ExplainedAnswer.Reported report status watts
-with_rules status watts (Answer.Refused cause) = ExplainedAnswer.Refused cause
+with_rules status watts (Ok report) = reported_with report status watts
+with_rules status watts (Err cause) = Err cause
 
 -- the step of spec 4.3, with the rules beside its report
 unfoldable pub explained_step : Equipment → Board → Settings → Slice → ExplainedStep
@@ -60,4 +60,4 @@ explained_step e b st x =
 
 -- a fresh board: tripped before any sample
 abbrev pub fresh_answer : ExplainedAnswer
-fresh_answer = ExplainedAnswer.Reported fresh_report StatusRule.WaitNotFull WattsRule.Status
+fresh_answer = reported_with fresh_report StatusRule.WaitNotFull WattsRule.Status

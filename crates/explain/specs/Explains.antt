@@ -1,6 +1,6 @@
 -- Spec 8.5 to 8.8, 13.11: what is claimed of any program that could be called a board which says its rules, and of any rules of histories.
 -- Assumes nothing.
-use Rattle.std.specs.Prelude.{◌≡◌, Bool, true, false, cond, ◌↔◌, List, [], ◌∷◌, ◌++◌, map, ℕ, suc, ◌+◌, ◌-◌, ◌*◌, ◌/◌, ◌≤◌, ◌<◌, min, eqb, nat_abs, length, get_or}
+use Rattle.std.specs.Prelude.{◌≡◌, Bool, true, false, cond, ◌↔◌, List, [], ◌∷◌, ◌++◌, map, ℕ, suc, ◌+◌, ◌-◌, ◌*◌, ◌/◌, ◌≤◌, ◌<◌, min, eqb, nat_abs, length, get_or, Ok, Err}
 use Rattle.rules.specs.Settings.{limit_at}
 use Rattle.rules.specs.Samples.{Slice, Equipment, frequency, permitted, available, operator_limit, lowest, highest, mean}
 use Rattle.rules.specs.Curves.{curve, nameplate}
@@ -14,7 +14,7 @@ use Rattle.rules.specs.declared.Settings.{Settings}
 use Rattle.rules.specs.declared.Board.{Board}
 use Rattle.rules.specs.declared.Report.{Report}
 use Rattle.rules.specs.declared.Refusal.{Refusal}
-use Rattle.rules.specs.declared.Answer.{Answer}
+use Rattle.rules.specs.Answers.{Answer}
 use Rattle.rules.specs.declared.Stepped.{Stepped}
 use Rattle.causes.specs.Calls.{Call, Program, run_of, call_accepted, accepted_samples, Under}
 use Rattle.claims.specs.Bits.{bit_at}
@@ -25,7 +25,7 @@ use Rattle.reasons.specs.Numbers.{status_rule_number, limit_place, watts_rule_nu
 use Rattle.explain.specs.Explained.{history_status_rule, history_watts_rule, explained_step, fresh_answer}
 use Rattle.reasons.specs.declared.StatusRule.{StatusRule}
 use Rattle.reasons.specs.declared.WattsRule.{WattsRule}
-use Rattle.explain.specs.declared.ExplainedAnswer.{ExplainedAnswer}
+use Rattle.explain.specs.Answers.{ExplainedAnswer, reported_with}
 use Rattle.explain.specs.declared.ExplainedStep.{ExplainedStep}
 
 -- ---- the rules of a board are those of its history
@@ -42,8 +42,8 @@ explained_by e = record { start = fresh; says = fresh_answer; step = explained_s
 
 -- an answer without its rules
 abbrev pub answer_alone : ExplainedAnswer → Answer
-answer_alone (ExplainedAnswer.Reported report status watts) = Answer.Reported report
-answer_alone (ExplainedAnswer.Refused cause) = Answer.Refused cause
+answer_alone (Ok given) = Ok given.report
+answer_alone (Err cause) = Err cause
 
 abbrev pub step_alone : ExplainedStep → Stepped
 step_alone t = record { board = t.board; answer = answer_alone t.answer }
@@ -58,7 +58,7 @@ explained_to p cs c = (p.step (run_of (board_alone p) cs).board c.settings c.sli
 
 -- a report and its two rules, as the accepted samples alone give them
 abbrev pub explained_history : Equipment → Settings → History → ExplainedAnswer
-explained_history e st h = ExplainedAnswer.Reported (report_of (history_report e st h)) (history_status_rule e st h) (history_watts_rule e st h)
+explained_history e st h = reported_with (report_of (history_report e st h)) (history_status_rule e st h) (history_watts_rule e st h)
 
 pub record ShowsRules (e : Equipment) (p : Explaining) (st : Settings) : Type 0 where
   -- before any sample
@@ -67,7 +67,7 @@ pub record ShowsRules (e : Equipment) (p : Explaining) (st : Settings) : Type 0 
   pub answers : (cs : List Call) (c : Call) → Next st cs c → explained_to p cs c ≡ explained_history e st (c.slice ∷ accepted_samples cs)
   -- and a refused call has none, only the number of its first cause
   pub refused : (cs : List Call) (c : Call) → Under st cs → call_accepted c ≡ false
-      → (cause : Refusal) × (explained_to p cs c ≡ ExplainedAnswer.Refused cause) × (refusal_number cause ≡ first (settings_causes c.settings ++ sample_causes c.slice))
+      → (cause : Refusal) × (explained_to p cs c ≡ Err cause) × (refusal_number cause ≡ first (settings_causes c.settings ++ sample_causes c.slice))
 
 -- on any record, under any settings and for any slice: record and report are those of the step that does not ask
 abbrev pub LeavesReports : Equipment → Explaining → Type 0
@@ -182,11 +182,11 @@ pub record NumbersTell : Type 0 where
 pub record NamesOnRecords (e : Equipment) (p : Explaining) : Type 0 where
   -- limit i has run out where its bit of the nine is 1
   pub status : (b : Board) (st : Settings) (x : Slice) (r : Report) (s : StatusRule) (w : WattsRule) → length b.counters ≡ 9
-      → (p.step b st x).answer ≡ ExplainedAnswer.Reported r s w
+      → (p.step b st x).answer ≡ reported_with r s w
       → StatusNamed e st x (in_service b.status) (in_service r.status) (λ i. bit_at r.bits (8 - i) ≡ 1) s
   -- ready, the lowest bit, is 0 where the wait is named, and 1 at a return
   pub ready : (b : Board) (st : Settings) (x : Slice) (r : Report) (s : StatusRule) (w : WattsRule) → length b.counters ≡ 9
-      → (p.step b st x).answer ≡ ExplainedAnswer.Reported r s w
+      → (p.step b st x).answer ≡ reported_with r s w
       → (s ≡ StatusRule.WaitNotFull → bit_at r.bits 0 ≡ 0) × (s ≡ StatusRule.Returned → bit_at r.bits 0 ≡ 1)
   pub watts : (b : Board) (st : Settings) (x : Slice) (r : Report) (s : StatusRule) (w : WattsRule)
-      → (p.step b st x).answer ≡ ExplainedAnswer.Reported r s w → WattsNamed e st x r w
+      → (p.step b st x).answer ≡ reported_with r s w → WattsNamed e st x r w

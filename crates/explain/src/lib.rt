@@ -10,12 +10,16 @@ ghost use Rattle.explain.specs.Explained.{fresh_answer};
 use reasons::{StatusRule, WattsRule};
 use rules::{Board, Refusal, Report};
 
-// What a step answers: a report with its two rules, or why there is none.
+// A report with the rule that held its status and the one that held its watts.
 #[derive(Clone, Copy)]
-pub enum ExplainedAnswer {
-    Reported(Report, StatusRule, WattsRule),
-    Refused(Refusal),
+pub struct ExplainedReport {
+    pub report: Report,
+    pub status: StatusRule,
+    pub watts: WattsRule,
 }
+
+// What a step answers: a report with its two rules, or why there is none.
+pub type ExplainedAnswer = Result<ExplainedReport, Refusal>;
 
 // A step's answer, with the record beside it.
 #[derive(Clone, Copy)]
@@ -28,9 +32,9 @@ pub struct ExplainedStep {
 pub fn fresh_answer() -> ExplainedAnswer
     ensures { result ≡ fresh_answer }
 {
-    ExplainedAnswer::Reported(
-        freshboard::fresh_report(),
-        StatusRule::WaitNotFull,
-        WattsRule::Status,
-    )
+    Ok(ExplainedReport {
+        report: freshboard::fresh_report(),
+        status: StatusRule::WaitNotFull,
+        watts: WattsRule::Status,
+    })
 }

@@ -1,5 +1,6 @@
 -- The exported functions, taken as a board program and as a replay, are ours.
 -- Assumes nothing.
+use Rattle.std.specs.Prelude.{Ok, Err}
 use mathlib.Core.Path.{◌≡◌, refl, ap, fun_ext}
 use mathlib.Core.List.{List}
 use Prim.Native.Nat.{ℕ}
@@ -9,7 +10,7 @@ use Rattle.rules.specs.Refusals.{answer_number}
 use Rattle.rules.specs.Records.{fresh, step_of}
 use Rattle.rules.specs.declared.Board.{Board}
 use Rattle.rules.specs.declared.Report.{Report}
-use Rattle.rules.specs.declared.Answer.{Answer}
+use Rattle.rules.specs.Answers.{Answer}
 use Rattle.rules.specs.declared.Settings.{Settings}
 use Rattle.rules.specs.declared.Stepped.{Stepped}
 use Rattle.rules.specs.declared.Refusal.TheVariants.{Form, Range, Rise, Code, Frequency, Permission, Power, Sample, Buffer}
@@ -26,16 +27,16 @@ use Rattle.exported.specs.Exported.{answer_by, exported_step_by, exported_board_
 -- ---- the board
 
 named_again : (before : Report) (a : Answer) → answer_by (answer_number a) (report_or before a) ≡ a
-named_again before (Answer.Reported r) = refl
-named_again before (Answer.Refused Form) = refl
-named_again before (Answer.Refused Range) = refl
-named_again before (Answer.Refused Rise) = refl
-named_again before (Answer.Refused Code) = refl
-named_again before (Answer.Refused Frequency) = refl
-named_again before (Answer.Refused Permission) = refl
-named_again before (Answer.Refused Power) = refl
-named_again before (Answer.Refused Sample) = refl
-named_again before (Answer.Refused Buffer) = refl
+named_again before (Ok r) = refl
+named_again before (Err Form) = refl
+named_again before (Err Range) = refl
+named_again before (Err Rise) = refl
+named_again before (Err Code) = refl
+named_again before (Err Frequency) = refl
+named_again before (Err Permission) = refl
+named_again before (Err Power) = refl
+named_again before (Err Sample) = refl
+named_again before (Err Buffer) = refl
 
 step_is : (e : Equipment) (before : Report) (b : Board) (st : Settings) (x : Slice) → exported_step_by e before b st x ≡ step_of e b st x
 unfolding record_after_by report_after_by step_number_by

@@ -1,14 +1,14 @@
 -- The exported functions, in the words of their contracts, as a board program and as a replay: of these demands 2 and 3 are claimed, and of the first
 -- how soon two ramp counts come apart.
 -- Assumes nothing.
-use Rattle.std.specs.Prelude.{cond, List, [], ◌∷◌, ℕ, eqb}
+use Rattle.std.specs.Prelude.{cond, List, [], ◌∷◌, ℕ, eqb, Ok, Err}
 use Rattle.rules.specs.Regions.{our_equipment}
 use Rattle.rules.specs.Samples.{Slice, Equipment}
 use Rattle.rules.specs.Refusals.{refusal_number}
 use Rattle.rules.specs.Records.{fresh}
 use Rattle.rules.specs.declared.Board.{Board}
 use Rattle.rules.specs.declared.Report.{Report}
-use Rattle.rules.specs.declared.Answer.{Answer}
+use Rattle.rules.specs.Answers.{Answer}
 use Rattle.rules.specs.declared.Settings.{Settings}
 use Rattle.rules.specs.declared.Stepped.{Stepped}
 use Rattle.rules.specs.declared.Refusal.{Refusal}
@@ -33,7 +33,7 @@ cause_of n = cause_among all_causes n
 
 -- what a number and a report say: 0 the report, any other number its cause
 abbrev pub answer_by : ℕ → Report → Answer
-answer_by n report = unless_refused n (Answer.Reported report) (Answer.Refused (cause_of n))
+answer_by n report = unless_refused n (Ok report) (Err (cause_of n))
 
 -- `saltdelta_step`, with `before` in the lent report: the record after it, and what number and report say
 abbrev pub exported_step_by : Equipment → Report → Board → Settings → Slice → Stepped

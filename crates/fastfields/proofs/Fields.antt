@@ -3,7 +3,7 @@
 -- Assumes nothing.
 use mathlib.Core.Path.{◌≡◌, refl, sym, ap, ◌∙◌}
 use mathlib.Core.Bool.{Bool, true, false}
-use mathlib.Core.List.{List, [], ◌∷◌}
+use mathlib.Core.List.{List, [], ◌∷◌, ◌++◌}
 use Prim.Native.Nat.{ℕ, ◌+◌, ◌-◌, ◌*◌, ◌/◌, ◌%◌, ◌≤◌, ◌<◌}
 use native.Mathlib.Nat.{div-add-mod', mod-lt}
 use native.Mathlib.Numerals.{add-one}
@@ -11,8 +11,12 @@ use native.Mathlib.Omega.{arith}
 use borrow.Author.Tests.{eq-eqb}
 use lib.Bits.{bit_xor, xor_block, xor_zero_r, xor_add_and, and_le_l, and_le_r}
 use lib.IntN.{pos}
-use lib.ListN.{length, get_or, drop}
-use lib.Seq.{drop-cons}
+use lib.ListN.{length, get_or, take, drop, length-drop}
+use lib.Dec.{eqb}
+use lib.Seq.{drop-cons, take_all, drop-drop}
+use Rattle.std.specs.List.{starts_with}
+use Rattle.std.proofs.lemmas.Slice.Eq.{starts_is}
+use Rattle.std.proofs.lemmas.Bool.Decides.{Decides-eqb}
 use Rattle.rules.specs.Text.{is_digit}
 use Rattle.rules.specs.Forms.{sample_form}
 use Rattle.formats.specs.Marks.{is_mark}
@@ -60,9 +64,8 @@ unfolding take_form
 byte-taken mark form s at next m h e n = rw (m, drop-cons s at 0 h, eq-eqb _ mark e, n, add-one at)
 
 -- a run of digits without a leading zero
-pub number-taken : (s : List ℕ) (at : ℕ) (d : Found) → FastDigits s at d → (get_or s at 0 ≡ 48 → d.next ≤ at + 1) → (found : Bool)
-    → FastNumber s at (record { found = found; next = d.next; value = d.value })
-number-taken s at d n lead found =
+pub number-taken : (s : List ℕ) (at : ℕ) (d : Found) → FastDigits s at d → (get_or s at 0 ≡ 48 → d.next ≤ at + 1) → FastNumber s at d
+number-taken s at d n lead =
     record {
       few = n.few;
       same = well-taken s at (record { value = d.value; next = d.next }) n.digits (omega (arith, n.any)) (omega (arith, n.few)) (λ z. omega (arith, lead z));
@@ -70,7 +73,7 @@ number-taken s at d n lead found =
 
 -- a number and the byte that closes it
 pub field-taken : (s : List ℕ) (at close : ℕ) (x : Found) → FastNumber s at x → is_mark close ≡ false → x.next < length s → get_or s x.next 0 ≡ close
-    → FastField s at close (record { found = true; next = x.next + 1; value = x.value })
+    → FastField s at close (record { next = x.next + 1; value = x.value })
 unfolding take_form
 field-taken s at close x n m h e =
     record {
@@ -79,13 +82,12 @@ field-taken s at close x n m h e =
     }
 
 -- the bytes of the sample form before its first number
-pub head-taken : (s : List ℕ) (at : ℕ) → at + 5 ≤ length s
-    → get_or s at 0 ≡ 40 → get_or s (at + 1) 0 ≡ 97 → get_or s (at + 2) 0 ≡ 116 → get_or s (at + 3) 0 ≡ 32 → get_or s (at + 4) 0 ≡ 40
-    → HeadTaken s at
-unfolding sample_form
-head-taken s at h a b c d e =
-    byte-taken 40 (drop 1 sample_form) s at (at + 1) refl (omega arith) a refl
-    ∙ byte-taken 97 (drop 2 sample_form) s (at + 1) (at + 2) refl (omega arith) b (omega arith)
-    ∙ byte-taken 116 (drop 3 sample_form) s (at + 2) (at + 3) refl (omega arith) c (omega arith)
-    ∙ byte-taken 32 (drop 4 sample_form) s (at + 3) (at + 4) refl (omega arith) d (omega arith)
-    ∙ byte-taken 40 (drop 5 sample_form) s (at + 4) (at + 5) refl (omega arith) e (omega arith)
+abbrev head : List ℕ
+head = 40 ∷ 97 ∷ 116 ∷ 32 ∷ 40 ∷ []
+
+pub head-taken : (s : List ℕ) (at : ℕ) (r : Bool) → r ≡ starts_with eqb (take (length s - at) (drop at s)) head → r ≡ true → HeadTaken s at
+unfolding sample_form take_form
+head-taken s at r e found =
+    let whole : take (length s - at) (drop at s) ≡ drop at s = take_all (length s - at) (drop at s) (omega (arith, length-drop at s)) in
+    let text : drop at s ≡ head ++ drop 5 (drop at s) = (starts_is Decides-eqb (drop at s) head r (e ∙ rw whole)).0 found in
+    ap (λ (l : List ℕ). take_form sample_form l) text ∙ ap (λ (l : List ℕ). take_form (drop 5 sample_form) l) (drop-drop 5 at s)

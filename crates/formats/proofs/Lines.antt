@@ -1,5 +1,6 @@
 -- Lines that have their forms and lie in their rows, written out and read: the reading accepts them, and accepts nothing else.
 -- Assumes nothing.
+use Rattle.std.specs.Prelude.{Ok}
 use mathlib.Core.Path.{◌≡◌, refl, sym, ap, ap₂, ◌∙◌}
 use mathlib.Core.Bool.{Bool, true, false, cond, not, ◌&&◌, false≢true}
 use mathlib.Core.List.{List, [], ◌∷◌, ◌++◌, map, append_assoc, append-nil}
@@ -17,7 +18,7 @@ use Rattle.rules.specs.Settings.{Pair, Row, in_row, rising, line_check, check_fr
 use Rattle.rules.specs.Sheets.{pairs, settings_of, SheetReading, refused_at, on_numbers, read_from}
 use Rattle.rules.specs.declared.Refusal.{Refusal}
 use Rattle.rules.specs.declared.Refusal.TheVariants.{Form, Range, Rise}
-use Rattle.rules.specs.declared.SettingsCheck.{SettingsCheck}
+use Rattle.rules.specs.Answers.{SettingsCheck, settings_refused}
 use Rattle.formats.specs.Marks.{marks, filled_in, suits}
 use Rattle.formats.specs.Sheets.{pair_numbers, written_lines}
 use Rattle.basics.proofs.Bools.{both}
@@ -76,11 +77,11 @@ module _ {A : Type 0} (r : Row) (ps : List Pair) (next : A) (refuse : Refusal �
       by_tests true false h = absurd (never Rise h)
       by_tests false b h = absurd (never Range h)
 
-refused-not : (cause : Refusal) (n : ℕ) → SettingsCheck.Refused cause n ≡ SettingsCheck.Accepted → ⊥
+refused-not : (cause : Refusal) (n : ℕ) → settings_refused cause n ≡ Ok tt → ⊥
 refused-not cause n e = let z : ◌≡◌ {A = ℕ} 0 1 = cc in omega arith
 
 pub good-checked : {rs : List Row} {forms : List (List ℕ)} {lines : List (List Pair)} → GoodLines rs forms lines → (n : ℕ)
-    → check_from n rs lines ≡ SettingsCheck.Accepted
+    → check_from n rs lines ≡ Ok tt
 unfolding check_from
 good-checked end n = refl
 good-checked (more g gs) n = rw (g.within, g.rises) (good-checked gs (suc n))
@@ -89,7 +90,7 @@ abbrev pub amount : List Pair → ℕ
 amount ps = length (pair_numbers ps)
 
 pub checked-good : (n : ℕ) (rs : List Row) (forms : List (List ℕ)) (lines : List (List Pair)) → agree rs forms ≡ true → map amount lines ≡ map marks forms
-    → check_from n rs lines ≡ SettingsCheck.Accepted → GoodLines rs forms lines
+    → check_from n rs lines ≡ Ok tt → GoodLines rs forms lines
 unfolding check_from agree
 checked-good n [] [] [] t l e = end
 checked-good n [] [] (ps ∷ lines) t l e = absurd (omega (arith, ap length l))
@@ -98,7 +99,7 @@ checked-good n (r ∷ rs) [] lines t l e = absurd (false≢true t)
 checked-good n (r ∷ rs) (form ∷ forms) [] t l e = absurd (omega (arith, ap length l))
 checked-good n (r ∷ rs) (form ∷ forms) (ps ∷ lines) t l e =
     let a = agreed r form rs forms t in
-    let p = passed r ps (check_from (suc n) rs lines) (λ cause. SettingsCheck.Refused cause n) (λ (k : SettingsCheck). k ≡ SettingsCheck.Accepted)
+    let p = passed r ps (check_from (suc n) rs lines) (λ cause. settings_refused cause n) (λ (k : SettingsCheck). k ≡ Ok tt)
     (λ cause. refused-not cause n) e in
     let here : amount ps ≡ marks form = cc in
     let on : map amount lines ≡ map marks forms = cc in
@@ -108,7 +109,7 @@ checked-good n (r ∷ rs) (form ∷ forms) (ps ∷ lines) t l e =
 
 -- a reading that accepts these lines, and ends there
 abbrev pub accepting : List (List Pair) → ℕ → SheetReading
-accepting lines start = record { check = SettingsCheck.Accepted; settings = settings_of lines; start = start }
+accepting lines start = record { check = Ok tt; settings = settings_of lines; start = start }
 
 -- where reading goes on after a line of these bytes
 abbrev past : ℕ → List ℕ → ℕ
@@ -148,7 +149,7 @@ pub record Begun (rs : List Row) (forms : List (List ℕ)) (s : List ℕ) : Type
   pub text : s ≡ written_lines forms lines ++ rest
 
 abbrev Accepts : SheetReading → Type 0
-Accepts reading = reading.check ≡ SettingsCheck.Accepted
+Accepts reading = reading.check ≡ Ok tt
 
 -- what is known of the lines after the first
 abbrev Rest : List Row → List (List ℕ) → Type 0

@@ -1,5 +1,6 @@
 -- Which lines are answered as samples: those that are a sample written out and ended, and no other.
 -- Assumes nothing.
+use Rattle.std.specs.Prelude.{Ok, Err}
 use mathlib.Core.Path.{◌≡◌, refl, sym, ap, ◌∙◌}
 use mathlib.Core.Bool.{Bool, true, false, cond}
 use mathlib.Core.List.{List, [], ◌∷◌, map}
@@ -19,8 +20,7 @@ use Rattle.rules.specs.Forms.{sample_form, numbers_of}
 use Rattle.rules.specs.declared.Settings.{Settings}
 use Rattle.rules.specs.declared.Board.{Board}
 use Rattle.rules.specs.declared.Refusal.TheVariants.{Range, Rise, Code, Frequency, Permission, Power, Sample}
-use Rattle.rules.specs.declared.SettingsCheck.{SettingsCheck}
-use Rattle.rules.specs.declared.SampleCheck.{SampleCheck}
+use Rattle.rules.specs.Answers.{SettingsCheck, SampleCheck, settings_refused}
 use Rattle.rules.specs.declared.Stepped.{Stepped}
 use Rattle.formats.specs.Samples.{six_digits, writable, written_sample, IsSampleLine, Answering, AnswersSamples}
 use Rattle.basics.proofs.Bools.{both}
@@ -29,7 +29,7 @@ use Rattle.formats.proofs.Samples.{sample-read, sample-written}
 -- ---- a step with seven numbers is not refused with 8
 
 line-below : (a b : Bool) (n : ℕ) (next : SettingsCheck) → settings_number next ≤ 3
-    → settings_number (cond a (cond b next (SettingsCheck.Refused Rise n)) (SettingsCheck.Refused Range n)) ≤ 3
+    → settings_number (cond a (cond b next (settings_refused Rise n)) (settings_refused Range n)) ≤ 3
 line-below true true n next h = h
 line-below true false n next h = omega arith
 line-below false b n next h = omega arith
@@ -51,7 +51,7 @@ sample-below x seven =
     (by (all (leb (code_of x 0) 4095 ∷ leb (code_of x 1) 4095 ∷ leb (code_of x 2) 4095 ∷ [])) (within 40000 80000 (frequency x)) (leb (permission x) 1)
     (all (leb (available x) 10000 ∷ leb (operator_limit x) 10000 ∷ [])))
   where
-    by : (a b c d : Bool) → sample_number (unless a Code (unless b Frequency (unless c Permission (unless d Power SampleCheck.Accepted)))) ≤ 7
+    by : (a b c d : Bool) → sample_number (unless a Code (unless b Frequency (unless c Permission (unless d Power (Ok tt))))) ≤ 7
     by false b c d = omega arith
     by true false c d = omega arith
     by true true false d = omega arith
@@ -60,16 +60,16 @@ sample-below x seven =
 
 module _ (e : Equipment) (st : Settings) (b : Board) (x : Slice) where
   checked-below : (m : SampleCheck) → sample_number m ≤ 7 → answer_number (on_sample e st x b m).answer ≤ 7
-  checked-below SampleCheck.Accepted h = omega arith
-  checked-below (SampleCheck.Refused cause) h = h
+  checked-below (Ok ok) h = omega arith
+  checked-below (Err cause) h = h
 
   step-below : eqb (length x) 7 ≡ true → answer_number (step_of e b st x).answer ≤ 7
   unfolding step_of
   step-below seven = by (settings_check st) (settings-below st)
     where
       by : (k : SettingsCheck) → settings_number k ≤ 3 → answer_number (on_settings e st x b k).answer ≤ 7
-      by SettingsCheck.Accepted h = checked-below (sample_check x) (sample-below x seven)
-      by (SettingsCheck.Refused cause line) h = omega (arith, h)
+      by (Ok ok) h = checked-below (sample_check x) (sample-below x seven)
+      by (Err away) h = omega (arith, h)
 
   not-turned-away : writable x ≡ true → ¬ (step_of e b st x ≡ turned_away b Sample)
   not-turned-away w h =

@@ -1,6 +1,7 @@
 -- What a sheet is, without a parser: settings that 2 and 3 pass are read back from their writing-out, whatever follows it, and every
 -- text that is accepted begins with such a writing-out.
 -- Assumes nothing.
+use Rattle.std.specs.Prelude.{Ok, Err}
 use mathlib.Core.Path.{◌≡◌, refl, sym, ap, ap₂, ◌∙◌, subst}
 use mathlib.Core.Bool.{true, false≢true}
 use mathlib.Core.List.{List, [], map}
@@ -16,7 +17,7 @@ use Rattle.rules.specs.Settings.{rows, in_row, rising, point_pair, lines_of, set
 use Rattle.rules.specs.Sheets.{settings_of, SheetReading, read_from, read_sheet}
 use Rattle.rules.specs.Defaults.{default_sheet, default_settings}
 use Rattle.rules.specs.declared.Settings.{Settings}
-use Rattle.rules.specs.declared.SettingsCheck.{SettingsCheck}
+use Rattle.rules.specs.Answers.{SettingsCheck}
 use Rattle.formats.specs.Marks.{marks, filled_in}
 use Rattle.formats.specs.Sheets.{written_lines, written_sheet, Complete, BeginsWithSheet, ReadsSheetsBack, AcceptsSheetsOnly, AcceptAlike}
 use Rattle.formats.proofs.Forms.{separated}
@@ -28,9 +29,9 @@ rows_agree : agree rows sheet_forms ≡ true
 unfolding agree rows sheet_forms has_feed separated within ends_fit
 rows_agree = refl
 
-was-accepted : (c : SettingsCheck) → settings_passed c ≡ true → c ≡ SettingsCheck.Accepted
-was-accepted SettingsCheck.Accepted e = refl
-was-accepted (SettingsCheck.Refused cause n) e = absurd (false≢true e)
+was-accepted : (c : SettingsCheck) → settings_passed c ≡ true → c ≡ Ok tt
+was-accepted (Ok ok) e = refl
+was-accepted (Err away) e = absurd (false≢true e)
 
 -- ---- written out and read back
 
@@ -54,7 +55,7 @@ pub sheet-read-back : ReadsSheetsBack read_sheet
 unfolding read_sheet written_sheet
 sheet-read-back st after c e =
     good-read rows_agree (good-lines st c e) 1 0 [] after
-    ∙ ap₂ (λ (settings : Settings) (start : ℕ). record { check = SettingsCheck.Accepted; settings = settings; start = start }) (settings-back st c) (zero-add _)
+    ∙ ap₂ (λ (settings : Settings) (start : ℕ). record { check = Ok tt; settings = settings; start = start }) (settings-back st c) (zero-add _)
 
 -- ---- accepted, so written out
 
@@ -86,11 +87,11 @@ sheet-written-out s e =
 -- ---- the two together leave no choice
 
 module _ (f g : List ℕ → SheetReading) (back : ReadsSheetsBack g) (out : AcceptsSheetsOnly f) (s : List ℕ) where
-  accepted-same : (f s).check ≡ SettingsCheck.Accepted → f s ≡ g s
+  accepted-same : (f s).check ≡ Ok tt → f s ≡ g s
   accepted-same e =
       let b = out s e in
       let st = (f s).settings in
-      let left : f s ≡ record { check = SettingsCheck.Accepted; settings = st; start = length (written_sheet st) }
+      let left : f s ≡ record { check = Ok tt; settings = st; start = length (written_sheet st) }
       = ap₂ (λ (check : SettingsCheck) (start : ℕ). record { check = check; settings = st; start = start }) e b.start in
       left ∙ sym (ap g b.text ∙ back st (drop (f s).start s) b.complete b.accepted)
 

@@ -1,12 +1,11 @@
 -- Spec 3.1 to 3.6: settings written out as a sheet, and what a text that is accepted must be.
 -- Assumes nothing.
-use Rattle.std.specs.Prelude.{◌≡◌, true, ◌↔◌, List, [], ◌∷◌, ◌++◌, ℕ, ℤ, length, drop}
+use Rattle.std.specs.Prelude.{◌≡◌, true, ◌↔◌, List, [], ◌∷◌, ◌++◌, ℕ, ℤ, length, drop, Ok}
 use Rattle.rules.specs.Text.{feed}
 use Rattle.rules.specs.Forms.{sheet_forms}
 use Rattle.rules.specs.Settings.{Pair, lines_of, settings_accepted}
 use Rattle.rules.specs.Sheets.{SheetReading}
 use Rattle.rules.specs.declared.Settings.{Settings}
-use Rattle.rules.specs.declared.SettingsCheck.{SettingsCheck}
 use Rattle.formats.specs.Marks.{filled_in}
 
 -- the numbers of a line, one after the other
@@ -44,13 +43,13 @@ pub record BeginsWithSheet (s : List ℕ) (r : SheetReading) : Type 0 where
 abbrev pub ReadsSheetsBack : (List ℕ → SheetReading) → Type 0
 ReadsSheetsBack read =
     (st : Settings) (after : List ℕ) → Complete st → settings_accepted st ≡ true
-    → read (written_sheet st ++ after) ≡ record { check = SettingsCheck.Accepted; settings = st; start = length (written_sheet st) }
+    → read (written_sheet st ++ after) ≡ record { check = Ok tt; settings = st; start = length (written_sheet st) }
 
 -- every text that is accepted begins with such a writing-out
 abbrev pub AcceptsSheetsOnly : (List ℕ → SheetReading) → Type 0
-AcceptsSheetsOnly read = (s : List ℕ) → (read s).check ≡ SettingsCheck.Accepted → BeginsWithSheet s (read s)
+AcceptsSheetsOnly read = (s : List ℕ) → (read s).check ≡ Ok tt → BeginsWithSheet s (read s)
 
 -- two readings of a text accept it or do not, and where they accept it give the same settings and place
 pub record AcceptAlike (a b : SheetReading) : Type 0 where
-  pub both : (a.check ≡ SettingsCheck.Accepted) ↔ (b.check ≡ SettingsCheck.Accepted)
-  pub same : a.check ≡ SettingsCheck.Accepted → a ≡ b
+  pub both : (a.check ≡ Ok tt) ↔ (b.check ≡ Ok tt)
+  pub same : a.check ≡ Ok tt → a ≡ b

@@ -15,7 +15,7 @@ fn put_image(out: &mut [u8], b: Board)
     requires { image_length ≤ length out.old }
     ensures { out.new ≡ written out.old 0 (image b) }
 {
-    let mut at = put_field(out, 0, 1, b.status as u32);
+    let mut at = put_field(out, 0, 1, u32::from(b.status));
     at = put_counters(out, at, b);
     at = put_field(out, at, 4, b.ramp);
     at = put_powers(out, at, b.watts, b.vars);
@@ -28,8 +28,8 @@ pub fn save(b: Board, out: &mut [u8]) -> Saved
     ensures result_value { saved_number result ≡ first (cause 9 (ltb (length out.old) image_length) ∷ []) }
 {
     if out.len() < IMAGE_LENGTH {
-        return Saved::Refused(Refusal::Buffer);
+        return Err(Refusal::Buffer);
     }
     put_image(out, b);
-    Saved::Written
+    Ok(())
 }

@@ -18,8 +18,7 @@ use Rattle.rules.specs.Samples as samples
 use Rattle.rules.specs.declared.Settings.{Settings}
 use Rattle.rules.specs.declared.Refusal.{Refusal}
 use Rattle.rules.specs.declared.Refusal.TheVariants.{Range, Rise, Code, Frequency, Permission, Power, Sample}
-use Rattle.rules.specs.declared.SettingsCheck.{SettingsCheck}
-use Rattle.rules.specs.declared.SampleCheck.{SampleCheck}
+use Rattle.rules.specs.Answers.{SettingsCheck, SampleCheck, settings_refused}
 use Rattle.basics.proofs.Bools.{both, at_all, within-true}
 
 -- ---- a sheet
@@ -30,7 +29,7 @@ pub record LineRight (r : Row) (ps : List Pair) : Type 0 where
   pub rise : rising ps ≡ true
 
 line-right : (a b : Bool) (next : SettingsCheck) (n : ℕ)
-    → settings_passed (cond a (cond b next (SettingsCheck.Refused Rise n)) (SettingsCheck.Refused Range n)) ≡ true
+    → settings_passed (cond a (cond b next (settings_refused Rise n)) (settings_refused Range n)) ≡ true
     → (a ≡ true) × (b ≡ true) × (settings_passed next ≡ true)
 line-right true true next n e = (refl, refl, e)
 line-right true false next n e = absurd (false≢true e)

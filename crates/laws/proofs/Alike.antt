@@ -1,5 +1,6 @@
 -- Equipments with the same voltages for the codes that are accepted, and the same regions, step alike.
 -- Assumes nothing.
+use Rattle.std.specs.Prelude.{Ok, Err}
 use mathlib.Core.Path.{◌≡◌, refl, ap, ◌∙◌}
 use mathlib.Core.Bool.{Bool, true, false, cond}
 use mathlib.Core.List.{List, [], ◌∷◌}
@@ -17,10 +18,8 @@ use Rattle.rules.specs.Service.{vars_of, watts_of}
 use Rattle.rules.specs.Records.{each, read_as, settled, ruled, next, shown, on_sample, on_settings, step_of}
 use Rattle.rules.specs.declared.Settings.{Settings}
 use Rattle.rules.specs.declared.Board.{Board}
-use Rattle.rules.specs.declared.SettingsCheck.{SettingsCheck}
-use Rattle.rules.specs.declared.SampleCheck.{SampleCheck}
+use Rattle.rules.specs.Answers.{SettingsCheck, SampleCheck}
 use Rattle.rules.specs.declared.Refusal.TheVariants.{Code}
-use Rattle.rules.specs.declared.Sensed.{Sensed}
 use Rattle.causes.specs.Alike.{Alike}
 use Rattle.causes.specs.Calls.{Call, Run, ruled_by, called, called_all}
 use Rattle.laws.proofs.Accepted.{SampleRight, sample-right}
@@ -112,14 +111,14 @@ module _ (e f : Equipment) (a : Alike e f) (x : Slice) (r : SampleRight x) where
 
 module _ (e f : Equipment) (a : Alike e f) where
   sample-alike : (b : Board) (st : Settings) (x : Slice) (k : SampleCheck) → sample_check x ≡ k → on_sample e st x b k ≡ on_sample f st x b k
-  sample-alike b st x (SampleCheck.Refused cause) p = refl
-  sample-alike b st x SampleCheck.Accepted p =
+  sample-alike b st x (Err cause) p = refl
+  sample-alike b st x (Ok ok) p =
       let r = sample-right x (ap samples.sample_passed p) in
       rw (next-alike e f a x r st b, shown-alike e f a x r st (next f st x b))
 
   settings-alike : (b : Board) (st : Settings) (x : Slice) (k : SettingsCheck) → on_settings e st x b k ≡ on_settings f st x b k
-  settings-alike b st x (SettingsCheck.Refused cause line) = refl
-  settings-alike b st x SettingsCheck.Accepted = sample-alike b st x (sample_check x) refl
+  settings-alike b st x (Err away) = refl
+  settings-alike b st x (Ok ok) = sample-alike b st x (sample_check x) refl
 
   pub step-alike : (b : Board) (st : Settings) (x : Slice) → step_of e b st x ≡ step_of f b st x
   unfolding step_of
@@ -138,6 +137,6 @@ module _ (e f : Equipment) (a : Alike e f) where
   sensed-alike code = by (leb code last_code) refl
     where
       by : (b : Bool) → leb code last_code ≡ b
-          → cond b (Sensed.Volts (e.sensing code)) (Sensed.Refused Code) ≡ cond b (Sensed.Volts (f.sensing code)) (Sensed.Refused Code)
-      by true p = ap (λ (v : ℕ). Sensed.Volts v) (a.sensing code (leb-true code last_code p))
+          → cond b (Ok (e.sensing code)) (Err Code) ≡ cond b (Ok (f.sensing code)) (Err Code)
+      by true p = ap (λ (v : ℕ). Ok v) (a.sensing code (leb-true code last_code p))
       by false p = refl

@@ -1,5 +1,6 @@
 -- Every public operation refuses with the first cause in the order of spec 11.2, and a refusal changes nothing.
 -- Assumes nothing.
+use Rattle.std.specs.Prelude.{Ok, Err}
 use mathlib.Core.Path.{◌≡◌, refl, sym, ap, ap₂, ◌∙◌}
 use mathlib.Core.Bool.{Bool, true, false, cond, not, ◌&&◌, ◌||◌, false≢true}
 use mathlib.Core.List.{List, [], ◌∷◌, ◌++◌, map, append-nil}
@@ -19,10 +20,7 @@ use Rattle.rules.specs.Images.{image, image_length, save_check, saved_into}
 use Rattle.rules.specs.declared.Settings.{Settings}
 use Rattle.rules.specs.declared.Board.{Board}
 use Rattle.rules.specs.declared.Refusal.TheVariants.{Range, Rise, Code, Frequency, Permission, Power, Sample, Buffer}
-use Rattle.rules.specs.declared.Sensed.{Sensed}
-use Rattle.rules.specs.declared.Saved.{Saved}
-use Rattle.rules.specs.declared.SettingsCheck.{SettingsCheck}
-use Rattle.rules.specs.declared.SampleCheck.{SampleCheck}
+use Rattle.rules.specs.Answers.{SettingsCheck, SampleCheck, settings_refused}
 use Rattle.causes.specs.Calls.{operations_by}
 use Rattle.causes.specs.FirstCause.{Cause, cause, first, line_causes, settings_causes, sample_causes, cause_line, RefusesRightly}
 use Rattle.laws.proofs.Images.{image-length}
@@ -61,11 +59,11 @@ not_within low high n = not-and (leb low n) (leb n high) ∙ ap₂ ◌||◌ (abo
 
 -- the number that is given where m is the number of what comes after accepted settings
 abbrev then_number : SettingsCheck → ℕ → ℕ
-then_number SettingsCheck.Accepted m = m
-then_number (SettingsCheck.Refused c line) m = refusal_number c
+then_number (Ok ok) m = m
+then_number (Err away) m = refusal_number away.cause
 
 line-number : (a b : Bool) (n : ℕ) (next : SettingsCheck) (m k : ℕ) → then_number next m ≡ k
-    → then_number (cond a (cond b next (SettingsCheck.Refused Rise n)) (SettingsCheck.Refused Range n)) m ≡ cond (not a) 2 (cond (not b) 3 k)
+    → then_number (cond a (cond b next (settings_refused Rise n)) (settings_refused Range n)) m ≡ cond (not a) 2 (cond (not b) 3 k)
 line-number true true n next m k e = e
 line-number true false n next m k e = refl
 line-number false b n next m k e = refl
@@ -86,13 +84,13 @@ pub accepted-none : (st : Settings) → settings_accepted st ≡ true → (ds : 
 accepted-none st ok ds = sym (settings-then st ds) ∙ by (settings_check st) ok
   where
     by : (k : SettingsCheck) → settings_passed k ≡ true → then_number k (first ds) ≡ first ds
-    by SettingsCheck.Accepted a = refl
-    by (SettingsCheck.Refused c line) a = absurd (false≢true a)
+    by (Ok ok) a = refl
+    by (Err away) a = absurd (false≢true a)
 
 -- ---- the line of the first cause
 
 line-line : (a b : Bool) (n : ℕ) (next : SettingsCheck) (m : ℕ) → line_of next ≡ m
-    → line_of (cond a (cond b next (SettingsCheck.Refused Rise n)) (SettingsCheck.Refused Range n)) ≡ cond (not a || not b) n m
+    → line_of (cond a (cond b next (settings_refused Rise n)) (settings_refused Range n)) ≡ cond (not a || not b) n m
 line-line true true n next m e = e
 line-line true false n next m e = refl
 line-line false b n next m e = refl
@@ -109,8 +107,8 @@ unfolding settings_check
 settings-line st = lines-line 1 rows (lines_of st)
 
 alone : (k : SettingsCheck) → settings_number k ≡ then_number k 0
-alone SettingsCheck.Accepted = refl
-alone (SettingsCheck.Refused c line) = refl
+alone (Ok ok) = refl
+alone (Err away) = refl
 
 pub settings-number : (st : Settings) → settings_number (settings_check st) ≡ first (settings_causes st)
 settings-number st = alone (settings_check st) ∙ settings-then st [] ∙ ap first (append-nil (settings_causes st))
@@ -118,7 +116,7 @@ settings-number st = alone (settings_check st) ∙ settings-then st [] ∙ ap fi
 -- ---- samples
 
 ladder : (a b c d p : Bool)
-    → sample_number (unless a Sample (unless b Code (unless c Frequency (unless d Permission (unless p Power SampleCheck.Accepted)))))
+    → sample_number (unless a Sample (unless b Code (unless c Frequency (unless d Permission (unless p Power (Ok tt))))))
     ≡ cond (not a) 8 (cond (not b) 4 (cond (not c) 5 (cond (not d) 6 (cond (not p) 7 0))))
 ladder false b c d p = refl
 ladder true false c d p = refl
@@ -148,24 +146,24 @@ sample-number x =
 
 module _ (e : Equipment) (b : Board) (st : Settings) (x : Slice) where
   sample-answer : (m : SampleCheck) → answer_number (on_sample e st x b m).answer ≡ sample_number m
-  sample-answer SampleCheck.Accepted = refl
-  sample-answer (SampleCheck.Refused c) = refl
+  sample-answer (Ok ok) = refl
+  sample-answer (Err c) = refl
 
   settings-answer : (k : SettingsCheck) → answer_number (on_settings e st x b k).answer ≡ then_number k (first (sample_causes x))
-  settings-answer SettingsCheck.Accepted = sample-answer (sample_check x) ∙ sample-number x
-  settings-answer (SettingsCheck.Refused c line) = refl
+  settings-answer (Ok ok) = sample-answer (sample_check x) ∙ sample-number x
+  settings-answer (Err away) = refl
 
   pub step-number : answer_number (step_of e b st x).answer ≡ first (settings_causes st ++ sample_causes x)
   unfolding step_of
   step-number = settings-answer (settings_check st) ∙ settings-then st (sample_causes x)
 
   sample-kept : (m : SampleCheck) → 0 < answer_number (on_sample e st x b m).answer → (on_sample e st x b m).board ≡ b
-  sample-kept SampleCheck.Accepted h = absurd (omega arith)
-  sample-kept (SampleCheck.Refused c) h = refl
+  sample-kept (Ok ok) h = absurd (omega arith)
+  sample-kept (Err c) h = refl
 
   settings-kept : (k : SettingsCheck) → 0 < answer_number (on_settings e st x b k).answer → (on_settings e st x b k).board ≡ b
-  settings-kept SettingsCheck.Accepted h = sample-kept (sample_check x) h
-  settings-kept (SettingsCheck.Refused c line) h = refl
+  settings-kept (Ok ok) h = sample-kept (sample_check x) h
+  settings-kept (Err away) h = refl
 
   step_kept : 0 < answer_number (step_of e b st x).answer → (step_of e b st x).board ≡ b
   unfolding step_of
@@ -177,7 +175,7 @@ pub sense-number : (volts : ℕ → ℕ) (code : ℕ) → sensed_number (sensed_
 unfolding sensed_by
 sense-number volts code = by (leb code last_code) ∙ ap (λ (b : Bool). cond b 4 0) (above code last_code)
   where
-    by : (b : Bool) → sensed_number (cond b (Sensed.Volts (volts code)) (Sensed.Refused Code)) ≡ cond (not b) 4 0
+    by : (b : Bool) → sensed_number (cond b (Ok (volts code)) (Err Code)) ≡ cond (not b) 4 0
     by true = refl
     by false = refl
 
@@ -185,7 +183,7 @@ pub save-number : (buffer : List ℕ) → saved_number (save_check buffer) ≡ f
 unfolding save_check
 save-number buffer = by (leb image_length (length buffer)) ∙ ap (λ (b : Bool). cond b 9 0) (above image_length (length buffer))
   where
-    by : (b : Bool) → saved_number (cond b Saved.Written (Saved.Refused Buffer)) ≡ cond (not b) 9 0
+    by : (b : Bool) → saved_number (cond b (Ok tt) (Err Buffer)) ≡ cond (not b) 9 0
     by true = refl
     by false = refl
 
@@ -193,7 +191,7 @@ save-kept : (b : Board) (buffer : List ℕ) → 0 < saved_number (save_check buf
 unfolding save_check saved_into
 save-kept b buffer h = by (leb image_length (length buffer)) h
   where
-    by : (t : Bool) → 0 < saved_number (cond t Saved.Written (Saved.Refused Buffer)) → cond t (image b ++ drop image_length buffer) buffer ≡ buffer
+    by : (t : Bool) → 0 < saved_number (cond t (Ok tt) (Err Buffer)) → cond t (image b ++ drop image_length buffer) buffer ≡ buffer
     by true k = absurd (omega arith)
     by false k = refl
 

@@ -1,5 +1,6 @@
 -- Reading a sheet refuses with the first cause of the first line that has one, and accepts where no line has.
 -- Assumes nothing.
+use Rattle.std.specs.Prelude.{Ok, Err}
 use mathlib.Core.Path.{◌≡◌, refl, sym, ap, ◌∙◌, subst}
 use mathlib.Core.Bool.{Bool, true, false, cond, not, ◌||◌, false≢true}
 use mathlib.Core.List.{List, [], ◌∷◌, ◌++◌, map, append_assoc, append-nil}
@@ -23,7 +24,7 @@ use Rattle.rules.specs.Refusals.{refusal_number, settings_number, line_of}
 use Rattle.rules.specs.Sheets.{SheetReading, pairs, settings_of, refused_at, on_numbers, read_from, read_sheet, part_of, handed_back}
 use Rattle.rules.specs.declared.Refusal.{Refusal}
 use Rattle.rules.specs.declared.Refusal.TheVariants.{Form, Range, Rise}
-use Rattle.rules.specs.declared.SettingsCheck.{SettingsCheck}
+use Rattle.rules.specs.Answers.{SettingsCheck}
 use Rattle.causes.specs.FirstCause.{first}
 use Rattle.causes.specs.SheetCauses.{from_line, numbers_by, causes_by, pairs_by, cause_at, line_cause, line_pairs, FirstCauseAt, SheetsRefusedRightly}
 
@@ -91,7 +92,7 @@ pairs_from [] t = []
 pairs_from (form ∷ forms) t = pairs_by (numbers_by form t) ∷ pairs_from forms (after_line t)
 
 abbrev accepted_at : List (List Pair) → ℕ → SheetReading
-accepted_at lines start = record { check = SettingsCheck.Accepted; settings = settings_of lines; start = start }
+accepted_at lines start = record { check = Ok tt; settings = settings_of lines; start = start }
 
 module _ (s : List ℕ) where
   -- it stops at line j of the text t, which stands in s, with that line's first cause
@@ -228,7 +229,7 @@ module _ (s : List ℕ) where
     at-line : line_of (read_sheet s).check ≡ x.j + 1
     at-line = ap (λ (r : SheetReading). line_of r.check) x.reading ∙ omega arith
 
-    not-accepted : (read_sheet s).check ≡ SettingsCheck.Accepted → ⊥
+    not-accepted : (read_sheet s).check ≡ Ok tt → ⊥
     not-accepted e = omega (arith, (number-bounds x.why).0, sym number ∙ ap settings_number e)
 
     -- it is the first line with a cause
@@ -247,7 +248,7 @@ module _ (s : List ℕ) where
         by (yes a) (no b) = absurd (omega (arith, h, f.here, x.before i (omega (arith, b))))
 
   module _ (x : Ends [] rows sheet_forms s (read_sheet s)) where
-    accepted : (read_sheet s).check ≡ SettingsCheck.Accepted
+    accepted : (read_sheet s).check ≡ Ok tt
     accepted = ap (λ (r : SheetReading). r.check) x.reading
 
     no-cause : (i : ℕ) → i < sheet_lines → line_cause i s ≡ 0
@@ -277,13 +278,13 @@ module _ (s : List ℕ) where
           (λ x. absurd (none_found x i n h f))
           reads
 
-  accepts : ((read_sheet s).check ≡ SettingsCheck.Accepted) ↔ ((i : ℕ) → i < sheet_lines → line_cause i s ≡ 0)
+  accepts : ((read_sheet s).check ≡ Ok tt) ↔ ((i : ℕ) → i < sheet_lines → line_cause i s ≡ 0)
   accepts = (λ e. ⊎_elim (λ x. absurd (not-accepted x e)) no-cause reads, λ clear. ⊎_elim (λ x. absurd (caught clear x)) accepted reads)
     where
       caught : ((i : ℕ) → i < sheet_lines → line_cause i s ≡ 0) → Stops 1 rows sheet_forms s (read_sheet s) → ⊥
       caught clear x = omega (arith, (number-bounds x.why).0, (found x).here, clear x.j (found x).line)
 
-  settings : (read_sheet s).check ≡ SettingsCheck.Accepted
+  settings : (read_sheet s).check ≡ Ok tt
       → (read_sheet s).settings ≡ settings_of (map (λ i. line_pairs i s) (0 ∷ 1 ∷ 2 ∷ 3 ∷ 4 ∷ 5 ∷ 6 ∷ 7 ∷ 8 ∷ 9 ∷ 10 ∷ 11 ∷ 12 ∷ []))
   settings e = ⊎_elim (λ x. absurd (not-accepted x e)) (λ x. ap (λ (r : SheetReading). r.settings) x.reading ∙ ap settings_of lines-read) reads
 
@@ -309,20 +310,20 @@ module _ (s : List ℕ) where
   refused-part h = by (read_sheet s).check h
     where
       by : (c : SettingsCheck) → 0 < settings_number c → part_of c (drop (read_sheet s).start s) ≡ first_line (drop (read_sheet s).start s)
-      by SettingsCheck.Accepted k = absurd (omega (arith, k))
-      by (SettingsCheck.Refused cause line) k = refl
+      by (Ok ok) k = absurd (omega (arith, k))
+      by (Err away) k = refl
 
   back : (i n : ℕ) → 0 < n → FirstCauseAt s i n → handed_back s ≡ first_line (from_line i s)
   back i n h f = refused-part (omega (arith, h, ((refuses i n h).1 f).0)) ∙ ap first_line (place i n h f)
 
-  follows : (read_sheet s).check ≡ SettingsCheck.Accepted → drop (read_sheet s).start s ≡ from_line sheet_lines s
+  follows : (read_sheet s).check ≡ Ok tt → drop (read_sheet s).start s ≡ from_line sheet_lines s
   follows e =
       ⊎_elim
       (λ x. absurd (not-accepted x e))
       (λ x. ap (λ (r : SheetReading). drop r.start s) x.reading ∙ x.place ∙ ap (λ (k : ℕ). from_line k s) many)
       reads
 
-  rest : (read_sheet s).check ≡ SettingsCheck.Accepted → handed_back s ≡ from_line sheet_lines s
+  rest : (read_sheet s).check ≡ Ok tt → handed_back s ≡ from_line sheet_lines s
   unfolding handed_back
   rest e = ap (λ (c : SettingsCheck). part_of c (drop (read_sheet s).start s)) e ∙ follows e
 

@@ -20,10 +20,9 @@ fn put_front(out: &mut [u8], at: usize, report: Report) -> usize
     if is_steady(report) {
         return put(out, at, b"(report continuous 000000001 10000 40");
     }
-    let recovery = report.recovery as u16;
     let a = put_head(out, at, report);
     let b = put_number(out, a, report.share);
-    put_number(out, b, recovery)
+    put_number(out, b, u16::from(report.recovery))
 }
 
 // A report: status word, nine bits and the numbers, the share first.
@@ -44,7 +43,7 @@ pub fn put_refused(out: &mut [u8], at: usize, number: u8, line: u64) -> usize
     ensures { Wrote out.old at out.new result (refused_line number line) }
 {
     let a = put(out, at, b"(refused");
-    let b = put_long_number(out, a, number as u64);
+    let b = put_long_number(out, a, u64::from(number));
     let c = put_long_number(out, b, line);
     put(out, c, b")\n")
 }

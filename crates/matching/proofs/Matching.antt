@@ -12,11 +12,10 @@ use lib.IntN.{ℤ, pos}
 use lib.ListN.{length, get_or, take, drop, set, replicate, length-set, length-take, take-append-drop, drop_of_length-le}
 use lib.Seq.{drop-cons, take-suc-set, drop-set-lt, drop-drop}
 use Rattle.formats.specs.Marks.{is_mark, marks, take_marked}
-use Rattle.numerals.specs.Places.{NumberAt}
+use Rattle.numerals.specs.Places.{NumberTaken}
 use Rattle.matching.specs.Forms.{Formed, after, taken_then, byte_then, take_form}
-use Rattle.matching.specs.Places.{padded, no_match, MatchAt}
+use Rattle.matching.specs.Places.{Matched}
 use Rattle.numerals.specs.declared.Number.{Number}
-use Rattle.matching.specs.declared.Match.{Match}
 
 -- ---- numbers before those found
 
@@ -37,19 +36,6 @@ pub record Matching (form s : List ℕ) (start : ℕ) (n : List ℤ) (k at j : �
   pub size : length n ≡ 8
   pub room : k + marks (drop j form) ≤ 8
   pub inside : at ≤ length s
-
-pub match-start : (form s : List ℕ) (start : ℕ) → marks form ≤ 8 → start ≤ length s → Matching form s start (replicate 8 (pos 0)) 0 start 0
-match-start form s start few h =
-    record {
-      left = sym (after-none-before (take_form form (drop start s)));
-      zeros = refl;
-      size = refl;
-      room = omega arith;
-      inside = h;
-    }
-
-pub match-fails : (o : Option Formed) (s : List ℕ) (r : Match) → o ≡ none → r ≡ no_match → MatchAt o s r
-match-fails o s r e q = rw e q
 
 module _ (form s : List ℕ) (start : ℕ) (n : List ℤ) (k at j : ℕ) (g : Matching form s start n k at j) (h : j < length form) where
   abbrev mark : ℕ
@@ -79,23 +65,22 @@ module _ (form s : List ℕ) (start : ℕ) (n : List ℤ) (k at j : ℕ) (g : Ma
   has_room m = omega (arith, marked-room m)
 
   -- the mark's number
-  module _ (m : is_mark mark ≡ true) (x : Number) (e : NumberAt (take_marked mark (drop at s)) s x) where
-    pub no-number : x.found ≡ false → take_form form (drop start s) ≡ none
-    no-number f = marked-left m ∙ rw (e.same, f)
+  pub no-number : is_mark mark ≡ true → take_marked mark (drop at s) ≡ none → take_form form (drop start s) ≡ none
+  no-number m e = marked-left m ∙ rw e
 
-    pub next-number : x.found ≡ true → Matching form s start (set n k x.value) (k + 1) x.next (j + 1)
-    next-number f =
-        let fits : k < length n = omega (arith, has_room m, g.size) in
-        let here : 8 - k ≡ suc (8 - (k + 1)) = omega (arith, has_room m) in
-        let taken : take_marked mark (drop at s) ≡ some (record { value = x.value; rest = drop x.next s }) = rw f at e.same in
-        let longer : take (k + 1) (set n k x.value) ≡ take k n ++ (x.value ∷ []) = rw (add-one) (take-suc-set n k x.value fits) in
-        record {
-          left = marked-left m ∙ rw (taken, longer) (after-after (take k n) (x.value ∷ []) (take_form (drop (j + 1) form) (drop x.next s)));
-          zeros = drop-set-lt (k + 1) n k x.value (omega arith) ∙ sym (drop-drop 1 k n) ∙ ap (drop 1) g.zeros ∙ rw here;
-          size = length-set n k x.value ∙ g.size;
-          room = omega (arith, marked-room m);
-          inside = e.inside;
-        }
+  pub next-number : is_mark mark ≡ true → (x : Number) → NumberTaken (take_marked mark (drop at s)) s x
+      → Matching form s start (set n k x.value) (k + 1) x.next (j + 1)
+  next-number m x e =
+      let fits : k < length n = omega (arith, has_room m, g.size) in
+      let here : 8 - k ≡ suc (8 - (k + 1)) = omega (arith, has_room m) in
+      let longer : take (k + 1) (set n k x.value) ≡ take k n ++ (x.value ∷ []) = rw (add-one) (take-suc-set n k x.value fits) in
+      record {
+        left = marked-left m ∙ rw (e.same, longer) (after-after (take k n) (x.value ∷ []) (take_form (drop (j + 1) form) (drop x.next s)));
+        zeros = drop-set-lt (k + 1) n k x.value (omega arith) ∙ sym (drop-drop 1 k n) ∙ ap (drop 1) g.zeros ∙ rw here;
+        size = length-set n k x.value ∙ g.size;
+        room = omega (arith, marked-room m);
+        inside = e.inside;
+      }
 
   -- the mark's byte
   module _ (m : is_mark mark ≡ false) where
@@ -116,10 +101,13 @@ module _ (form s : List ℕ) (start : ℕ) (n : List ℤ) (k at j : ℕ) (g : Ma
         }
 
 pub match-ends : (form s : List ℕ) (start : ℕ) (n : List ℤ) (k at j : ℕ) → Matching form s start n k at j → length form ≤ j
-    → MatchAt (take_form form (drop start s)) s (record { found = true; next = at; n = n })
+    → Matched (take_form form (drop start s)) s (record { next = at; n = n })
 unfolding take_form
 match-ends form s start n k at j g h =
-    let done : take_form form (drop start s) ≡ some (record { numbers = take k n; rest = drop at s }) = g.left ∙ rw (drop_of_length-le form h, append-nil) in
     let count : length (take k n) ≡ k = omega (arith, length-take k n, g.size, g.room) in
-    let numbers : n ≡ padded (take k n) = rw (count, ← g.zeros) (sym (take-append-drop k n)) in
-    rw done (record { found = refl; numbers = numbers; rest = refl; inside = g.inside })
+    record {
+      numbers = take k n;
+      same = g.left ∙ rw (drop_of_length-le form h, append-nil);
+      stored = rw (count, ← g.zeros) (sym (take-append-drop k n));
+      inside = g.inside;
+    }

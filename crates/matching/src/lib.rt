@@ -4,7 +4,7 @@
 ghost use Rattle.std.specs.Prelude.{◌≡◌, ◌≤◌, length, drop};
 ghost use Rattle.formats.specs.Marks.{is_mark, marks};
 ghost use Rattle.matching.specs.Forms.{take_form};
-ghost use Rattle.matching.specs.Places.{no_match, MatchAt};
+ghost use Rattle.matching.specs.Places.{MatchAt};
 
 use numerals::marked_at;
 
@@ -12,62 +12,37 @@ use numerals::marked_at;
 // than eight numbers.
 #[derive(Clone, Copy)]
 pub struct Match {
-    pub found: bool,
     pub next: usize,
     pub n: [i32; 8],
-}
-
-fn no_match() -> Match
-    ensures { result ≡ no_match }
-{
-    let n = [0i32; 8];
-    Match {
-        found: false,
-        next: 0,
-        n,
-    }
 }
 
 fn is_mark(b: u8) -> bool
     ensures { result ≡ is_mark b }
 {
-    b == b'#' || b == b'~'
+    matches!(b, b'#' | b'~')
 }
 
 // The form at a place of a text.
-pub fn match_at(form: &[u8], s: &[u8], start: usize) -> Match
+pub fn match_at(form: &[u8], s: &[u8], start: usize) -> Option<Match>
     requires { (marks form.now ≤ 8) × (start ≤ length s.now) }
     ensures { MatchAt (take_form form.now (drop start s.now)) s.now result }
 {
     let mut n = [0i32; 8];
-    let mut k: usize = 0;
+    let mut k = 0;
     let mut at = start;
-    let mut j: usize = 0;
-    while j < form.len() {
-        let mark = form[j];
-        j += 1;
-        if is_mark(mark) {
-            let x = marked_at(mark, s, at);
-            if !x.found {
-                return no_match();
-            }
-            let value = x.value;
-            n[k] = value;
+    for mark in form {
+        if is_mark(*mark) {
+            let x = marked_at(*mark, s, at)?;
+            n[k] = x.value;
             k += 1;
             at = x.next;
         } else {
-            if at >= s.len() {
-                return no_match();
-            }
-            if s[at] != mark {
-                return no_match();
+            let b = s.get(at)?;
+            if *b != *mark {
+                return None;
             }
             at += 1;
         }
     }
-    Match {
-        found: true,
-        next: at,
-        n,
-    }
+    Some(Match { next: at, n })
 }

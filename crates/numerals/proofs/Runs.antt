@@ -76,8 +76,9 @@ module _ (s : List ℕ) (at v i : ℕ) (r : Run s at v i) where
         rest = λ l. absurd (omega arith);
       }
 
-  pub run_ends : i ≤ at + min (length s - at) 7 → at + min (length s - at) 7 ≤ i → at ≤ length s → DigitsAt s at (record { value = v; next = i })
-  run_ends up down inside = by_end (dec_le (length s) i)
+  -- at the last place that is looked at
+  pub run_ends : (end : ℕ) → end ≡ at + min (length s - at) 7 → i ≡ end → at ≤ length s → DigitsAt s at (record { value = v; next = end })
+  run_ends end e here inside = rw (← here) (by_end (dec_le (length s) i))
     where
       by_end : Dec (length s ≤ i) → DigitsAt s at (record { value = v; next = i })
       by_end (yes past) = run_past (omega arith) past (omega arith)

@@ -20,13 +20,9 @@ use Rattle.rules.specs.Tests.{within}
 use Rattle.formats.specs.Marks.{take_marked}
 use Rattle.formats.proofs.Digits.{WellFormed, well-formed, formed-well, leading-digits, value-below, tens-mono}
 use Rattle.formats.proofs.Numbers.{number-written, signed-other}
-use Rattle.numerals.specs.Places.{DigitsAt, NumberAt, no_number}
+use Rattle.numerals.specs.Places.{DigitsAt, NumberTaken}
 use Rattle.numerals.specs.declared.Digits.{Digits}
 use Rattle.numerals.specs.declared.Number.{Number}
-
--- nothing is taken, and nothing found
-pub none-at : (o : Option Taken) (s : List ℕ) (r : Number) → o ≡ none → r ≡ no_number → NumberAt o s r
-none-at o s r e q = rw q (record { same = e; inside = omega arith; small = omega arith })
 
 -- ---- from a run of digits
 
@@ -52,11 +48,9 @@ module _ (s : List ℕ) (at : ℕ) (r : Digits) (d : DigitsAt s at r) where
   first_byte : 1 ≤ r.next - at → get_or (leading_digits (drop at s)) 0 0 ≡ get_or s at 0
   first_byte h = lead-byte (drop at s) (omega (arith, d.count)) ∙ get_or-drop at s 0 0 ∙ ap (λ (k : ℕ). get_or s k 0) (add-zero at)
 
-  pub no-digits : r.next - at ≡ 0 → take_number (drop at s) ≡ none
-  no-digits e = take_none (drop at s) (λ w. omega (arith, d.count, w.some))
-
-  pub too_many : 6 < r.next - at → take_number (drop at s) ≡ none
-  too_many h = take_none (drop at s) (λ w. omega (arith, d.count, w.most))
+  -- no digit, or seven
+  pub not_counted : (1 ≤ r.next - at → 6 < r.next - at) → take_number (drop at s) ≡ none
+  not_counted h = take_none (drop at s) (λ w. omega (arith, d.count, w.most, h (omega (arith, d.count, w.some))))
 
   pub leading-zero : 1 < r.next - at → get_or s at 0 ≡ 48 → take_number (drop at s) ≡ none
   leading-zero h z = take_none (drop at s) (λ w. omega (arith, d.count, w.lead (first_byte (omega arith) ∙ z)))
@@ -86,30 +80,19 @@ small-negated (pos zero) h = omega arith
 small-negated (pos (suc n)) h = h
 small-negated (negsuc n) h = h
 
-module _ (l s : List ℕ) (x : Number) (k : NumberAt (take_number l) s x) where
-  pub negated-none : x.found ≡ false → negated (take_number l) ≡ none
-  negated-none e = rw (k.same, e)
-
+module _ (l s : List ℕ) (x : Number) (k : NumberTaken (take_number l) s x) where
   pub negated-zero : x.value ≡ pos 0 → negated (take_number l) ≡ none
-  negated-zero e = ap negated k.same ∙ by-found x.found
-    where
-      by-found : (t : Bool) → negated (cond {A = Option Taken} t (some (record { value = x.value; rest = drop x.next s })) none) ≡ none
-      by-found true = rw e
-      by-found false = refl
+  negated-zero e = ap negated k.same ∙ rw e
 
-  pub negated-some : x.found ≡ true → (x.value ≡ pos 0 → ⊥)
-      → NumberAt (negated (take_number l)) s (record { found = true; value = neg_ℤ x.value; next = x.next })
-  negated-some e other =
-      record { same = ap negated taken ∙ by_value x.value refl; inside = k.inside; small = small-negated x.value k.small }
+  pub negated-some : (x.value ≡ pos 0 → ⊥) → NumberTaken (negated (take_number l)) s (record { value = neg_ℤ x.value; next = x.next })
+  negated-some other =
+      record { same = ap negated k.same ∙ by_value x.value refl; inside = k.inside; small = small-negated x.value k.small }
     where
-      taken : take_number l ≡ some (record { value = x.value; rest = drop x.next s })
-      taken = rw e at k.same
-
       by_value : (z : ℤ) → x.value ≡ z
           → negated (some (record { value = z; rest = drop x.next s })) ≡ some (record { value = neg_ℤ z; rest = drop x.next s })
       by_value (pos zero) q = absurd (other q)
       by_value (pos (suc n)) q = refl
-      by_value (negsuc n) q = absurd (pos-ne-negsuc _ _ (sym (number-written l _ taken).value ∙ q))
+      by_value (negsuc n) q = absurd (pos-ne-negsuc _ _ (sym (number-written l _ k.same).value ∙ q))
 
 -- ---- by the mark
 

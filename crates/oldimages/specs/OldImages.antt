@@ -1,6 +1,7 @@
 -- Spec 9.5 to 9.7: the images of the old firmware, from before the recovery count and frequency droop, and what stands behind them in ours.
 -- Assumes nothing.
-use Rattle.std.specs.Prelude.{Bool, true, false, ◌&&◌, List, [], ◌∷◌, ℕ, eqb, drop}
+use Rattle.std.specs.Prelude.{Bool, List, [], ◌∷◌, ℕ, eqb, drop}
+use Rattle.std.specs.Cmp.Lexicographic.{pointwise}
 use Rattle.rules.specs.Droop.{no_side}
 use Rattle.rules.specs.Service.{recovery_top}
 
@@ -14,10 +15,7 @@ added_bytes = recovery_top ∷ no_side ∷ 0 ∷ 0 ∷ []
 
 -- as many bytes, and each the same
 abbrev pub same_bytes : List ℕ → List ℕ → Bool
-same_bytes [] [] = true
-same_bytes [] (c ∷ m) = false
-same_bytes (b ∷ l) [] = false
-same_bytes (b ∷ l) (c ∷ m) = eqb b c && same_bytes l m
+same_bytes = pointwise eqb
 
 -- spec 9.7: what stands behind the bytes of an old image is what carrying forward appends
 abbrev pub has_added : List ℕ → Bool

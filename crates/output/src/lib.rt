@@ -7,12 +7,11 @@ ghost use Rattle.rules.specs.Service.{vars_of, first_limits, left_by, watts_of};
 ghost use Rattle.readings.specs.Readings.{reading_of, Exportable};
 
 use droop::{side_of, within_droop};
-use numbers::smaller;
 use power::{volt_var, volt_watt, within_nameplate};
 use readings::reading::Reading;
 use recovery::within_recovery;
-use rules::Settings;
 use serving::gives_power;
+use settings::Accepted;
 
 #[derive(Clone, Copy)]
 pub struct Powers {
@@ -26,32 +25,30 @@ fn first_limits(r: Reading, share: u32, held: u16) -> u32
     ensures value { (e : Equipment) (x : Slice) → reading_of e x ≡ r → result ≡ left_by (first_limits x share held) }
     ensures upper_bound { result ≤ r.available }
 {
-    let limited = smaller(r.available, r.limit);
-    let calm = smaller(limited, share);
     if side_of(r.frequency) == 0 {
-        return calm;
+        r.available.min(r.limit).min(share)
+    } else {
+        within_droop(r.frequency, held, r.available)
     }
-    within_droop(r.frequency, held, r.available)
 }
 
 // What a board in this status gives. In one that gives power the curves are read at the mean voltage, and watts are the least that a limit
 // leaves, taken in their standing order, one to a line; in others both powers are 0.
-pub fn powers_in(r: Reading, s: Settings, status: u8, share: u32, recovery: u8, held: u16) -> Powers
-    requires { Exportable r s }
-    ensures vars_value { (e : Equipment) (x : Slice) → reading_of e x ≡ r → result.vars ≡ vars_of e s x status }
-    ensures watts_value { (e : Equipment) (x : Slice) → reading_of e x ≡ r → result.watts ≡ watts_of e s x status share recovery held }
+#[tactic(auto, unfolding(rules::specs::Service::vars_of, rules::specs::Service::watts_of))]
+pub fn powers_in(r: Reading, s: Accepted, status: u8, share: u32, recovery: u8, held: u16) -> Powers
+    requires { Exportable r }
+    ensures vars_value { (e : Equipment) (x : Slice) → reading_of e x ≡ r → result.vars ≡ vars_of e s.settings x status }
+    ensures watts_value { (e : Equipment) (x : Slice) → reading_of e x ≡ r → result.watts ≡ watts_of e s.settings x status share recovery held }
     ensures watts_bound { (result.watts ≤ 10000) × (nat_abs result.vars ≤ 10000) }
 {
     if !gives_power(status) {
         return Powers { watts: 0, vars: 0 };
     }
     let v = r.sum / 3;
-    let var = s.var;
-    let watt = s.watt;
-    let vars = volt_var(var, v);
-    let curve = volt_watt(watt, v);
+    let vars = volt_var(s.settings.var, v);
+    let curve = volt_watt(s.settings.watt, v);
     let p = first_limits(r, share, held);
-    let p = smaller(p, curve);
+    let p = p.min(curve);
     let p = within_nameplate(p, vars);
     let watts = within_recovery(p, recovery);
     Powers { watts, vars }

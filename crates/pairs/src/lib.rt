@@ -9,24 +9,12 @@ ghost use Rattle.ranges.specs.Pairs.{pair_of};
 use ranges::Pair;
 use rules::{Point, Settings};
 
-fn unsigned(n: u32) -> i64
-    ensures { result ≡ pos n }
-{
-    n as i64
-}
-
-fn widened(n: i32) -> i64
-    ensures { result ≡ n }
-{
-    n as i64
-}
-
 fn unsigned_pair(first: u32, second: u32) -> Pair
     ensures { pair_of result ≡ pair (pos first) (pos second) }
 {
     Pair {
-        first: unsigned(first),
-        second: unsigned(second),
+        first: i64::from(first),
+        second: i64::from(second),
     }
 }
 
@@ -34,8 +22,8 @@ fn point_pair(p: Point) -> Pair
     ensures { pair_of result ≡ point_pair p }
 {
     Pair {
-        first: unsigned(p.volts),
-        second: widened(p.power),
+        first: i64::from(p.volts),
+        second: i64::from(p.power),
     }
 }
 
@@ -50,26 +38,17 @@ pub fn pairs_in(line: usize) -> usize
     }
 }
 
-// Pair k of a line, both counted from 0.
+// Pair k of a line, both counted from 0. The pairs of a line are no slice: limits, ranges, plain numbers and points hold them.
 pub fn pair_at(s: Settings, line: usize, k: usize) -> Pair
     requires { (line < sheet_lines) × (k < pairs_in line) }
     ensures { pair_of result ≡ settings_pair s line k }
 {
-    if line < 8 {
-        let limit = s.trip[line];
-        return unsigned_pair(limit.level, limit.clearing);
-    }
     match line {
+        0..=7 => unsigned_pair(s.trip[line].level, s.trip[line].clearing),
         8 => unsigned_pair(s.volts.low, s.volts.high),
         9 => unsigned_pair(s.hertz.low, s.hertz.high),
         10 => unsigned_pair(s.wait, s.ramp),
-        11 => {
-            let p = s.var[k];
-            point_pair(p)
-        }
-        _ => {
-            let p = s.watt[k];
-            point_pair(p)
-        }
+        11 => point_pair(s.var[k]),
+        _ => point_pair(s.watt[k]),
     }
 }

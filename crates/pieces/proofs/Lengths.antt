@@ -1,11 +1,12 @@
 -- How long the words and the bits are at the most.
 -- Assumes nothing.
-use mathlib.Core.Path.{◌≡◌, refl}
+use mathlib.Core.Path.{◌≡◌, refl, ap, ◌∙◌}
 use Prim.Native.Nat.{ℕ, zero, suc, ◌/◌, ◌≤◌}
-use native.Mathlib.Omega.{arith}
 use lib.Dec.{lit≤}
-use lib.ListN.{length, length-append}
+use lib.ListN.{length}
 use Rattle.rules.specs.Transcripts.{bit_digits}
+use Rattle.buffers.specs.Digits.{digits_in}
+use Rattle.buffers.proofs.Digits.{digits-length}
 use Rattle.pieces.specs.Pieces.{status_word}
 
 pub word-length : (s : ℕ) → length (status_word s) ≤ 10
@@ -18,7 +19,11 @@ word-length (suc (suc (suc (suc zero)))) = lit≤ tt
 word-length (suc (suc (suc (suc (suc zero))))) = lit≤ tt
 word-length (suc (suc (suc (suc (suc (suc s)))))) = lit≤ tt
 
+-- bits are digits in base 2
+pub bits-are : (k n : ℕ) → bit_digits k n ≡ digits_in 2 48 k n
+unfolding bit_digits digits_in
+bits-are zero n = refl
+bits-are (suc k) n = rw (bits-are k (n / 2)) refl
+
 pub bits-length : (k n : ℕ) → length (bit_digits k n) ≡ k
-unfolding bit_digits
-bits-length zero n = refl
-bits-length (suc k) n = rw length-append (omega (arith, bits-length k (n / 2)))
+bits-length k n = ap length (bits-are k n) ∙ digits-length 2 48 k n

@@ -14,12 +14,7 @@ pub fn put(out: &mut [u8], at: usize, text: &[u8]) -> usize
     requires { at + length text.now ≤ length out.old }
     ensures { Wrote out.old at out.new result text.now }
 {
-    let mut i = 0;
-    let mut place = at;
-    while i < text.len() {
-        out[place] = text[i];
-        place += 1;
-        i += 1;
-    }
-    place
+    let end = at + text.len();
+    out[at..end].copy_from_slice(text);
+    end
 }

@@ -1,5 +1,6 @@
 -- Sensible states: lines and bytes are counted within the input's 10^12 bytes.
 -- Assumes nothing.
+use Rattle.std.specs.Prelude.{Ok, Err}
 use mathlib.Core.Path.{◌≡◌, refl, sym, subst}
 use mathlib.Core.Bool.{Bool, true, false, cond, not, ◌&&◌, ◌||◌, false≢true}
 use mathlib.Core.List.{List}
@@ -12,12 +13,11 @@ use Rattle.rules.specs.Settings.{sheet_lines}
 use Rattle.rules.specs.Samples.{Equipment}
 use Rattle.rules.specs.Transcripts.{input_end}
 use Rattle.rules.specs.declared.Settings.{Settings}
-use Rattle.rules.specs.declared.SettingsCheck.{SettingsCheck}
 use Rattle.basics.proofs.Bools.{both}
 use Rattle.formats.specs.Marks.{form_at}
-use Rattle.sheet.specs.LineReads.{on_line}
+use Rattle.sheet.specs.LineReads.{LineRead, on_line}
 use Rattle.program.specs.States.{is_done, reads_sheet, stopped, sensible, read_state, Fit}
-use Rattle.program.specs.Saying.{Said, line_numbers, on_check, said}
+use Rattle.program.specs.Saying.{Said, line_numbers, on_read, said}
 use Rattle.program.specs.declared.State.{State}
 use Rattle.program.proofs.Saying.{said-sheet, said-sample}
 
@@ -30,9 +30,9 @@ fit-stopped m f h =
 
 -- ---- one line more
 
-fit-check : {q : State} {n : ℕ} (m : ℕ) (st : Settings) (c : SettingsCheck) → Fit q n → reads_sheet q ≡ true → 1 ≤ m → m ≤ n → Fit (on_check q m st c).state (n - m)
-fit-check m st (SettingsCheck.Refused cause line) f p a b = fit-stopped m f b
-fit-check {q} m st SettingsCheck.Accepted f p a b =
+fit-after-read : {q : State} {n : ℕ} (m : ℕ) (r : LineRead) → Fit q n → reads_sheet q ≡ true → 1 ≤ m → m ≤ n → Fit (on_read q m r).state (n - m)
+fit-after-read m (Err away) f p a b = fit-stopped m f b
+fit-after-read {q} m (Ok st) f p a b =
     record {
       from_one = omega arith;
       low = omega (arith, f.low);
@@ -53,7 +53,7 @@ fit-said e {q} {n} l p f h = by (reads_sheet q) refl
     by true r =
         let read = on_line (q.line - 1) q.settings (line_numbers q.overlong (form_at (q.line - 1)) l) in
         subst (λ (k : Said). Fit k.state (n - (length l + 1))) (sym (said-sheet e q l p r))
-        (fit-check (length l + 1) read.settings read.check f r (omega arith) h)
+        (fit-after-read (length l + 1) read f r (omega arith) h)
     by false r =
         subst (λ (k : Said). Fit k.state (n - (length l + 1))) (sym (said-sample e q l p r))
         record { from_one = omega arith; low = omega (arith, f.low); high = omega (arith, f.high); sheet = λ k. absurd (false≢true k) }

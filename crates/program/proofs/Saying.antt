@@ -1,5 +1,6 @@
 -- What is said to a line and at the end, as laws. No other proof of a program opens `said` or `end_text`.
 -- Assumes nothing.
+use Rattle.std.specs.Prelude.{Ok, Err}
 use mathlib.Core.Path.{◌≡◌, refl, ap}
 use mathlib.Core.Bool.{Bool, true, false, cond, ◌||◌, false≢true}
 use mathlib.Core.List.{List, [], ◌∷◌, ◌++◌, map}
@@ -18,15 +19,14 @@ use Rattle.rules.specs.Transcripts.{refused_line, on_sample_numbers}
 use Rattle.rules.specs.declared.Settings.{Settings}
 use Rattle.rules.specs.declared.Board.{Board}
 use Rattle.rules.specs.declared.Refusal.TheVariants.{Form}
-use Rattle.rules.specs.declared.SettingsCheck.{SettingsCheck}
 use Rattle.causes.specs.Alike.{Alike}
 use Rattle.laws.proofs.Alike.{step-alike}
 use Rattle.formats.specs.Marks.{forms, form_at}
 use Rattle.text.specs.Forms.{longest}
 use Rattle.text.proofs.Made.{too_long}
-use Rattle.sheet.specs.LineReads.{on_line}
+use Rattle.sheet.specs.LineReads.{LineRead, on_line}
 use Rattle.program.specs.States.{is_done, reads_sheet, dropping}
-use Rattle.program.specs.Saying.{Said, line_numbers, on_check, sheet_line, sample_line, said, is_some, begun_line, closing_text, end_text}
+use Rattle.program.specs.Saying.{Said, line_numbers, on_read, sheet_line, sample_line, said, is_some, begun_line, closing_text, end_text}
 use Rattle.program.specs.declared.State.{State}
 
 -- ---- an ended line, by what the program is at
@@ -51,9 +51,9 @@ module _ (e : Equipment) (q : State) (l : List ℕ) where
 module _ (e : Equipment) where
   -- ---- the bytes a line takes
 
-  check-taken : (q : State) (n : ℕ) (st : Settings) (c : SettingsCheck) → (on_check q n st c).state.taken ≡ q.taken + n
-  check-taken q n st SettingsCheck.Accepted = refl
-  check-taken q n st (SettingsCheck.Refused cause line) = refl
+  read-taken : (q : State) (n : ℕ) (r : LineRead) → (on_read q n r).state.taken ≡ q.taken + n
+  read-taken q n (Ok st) = refl
+  read-taken q n (Err away) = refl
 
   pub said-taken : (q : State) (l : List ℕ) → is_done q ≡ false → (said e q l).state.taken ≡ q.taken + (length l + 1)
   unfolding said
@@ -61,8 +61,7 @@ module _ (e : Equipment) where
     where
       by : (b : Bool) → (cond b (sheet_line q l) (sample_line e q l)).state.taken ≡ q.taken + (length l + 1)
       by true =
-          let r = on_line (q.line - 1) q.settings (line_numbers q.overlong (form_at (q.line - 1)) l) in
-          check-taken q (length l + 1) r.settings r.check
+          read-taken q (length l + 1) (on_line (q.line - 1) q.settings (line_numbers q.overlong (form_at (q.line - 1)) l))
       by false = refl
 
 -- ---- where the input ends

@@ -14,7 +14,7 @@ use Rattle.rules.specs.Text.{has_feed}
 use Rattle.rules.specs.Sheets.{read_sheet}
 use Rattle.rules.specs.Transcripts.{lines_in, input_end, transcript_of, transcript_by, transcript}
 use Rattle.rules.specs.declared.Refusal.{Refusal}
-use Rattle.rules.specs.declared.SettingsCheck.{SettingsCheck}
+use Rattle.rules.specs.Answers.{settings_refused}
 use Rattle.program.specs.States.{Fit, start, is_done, stopped, sensible, read_state}
 use Rattle.program.specs.Saying.{Said, resume}
 use Rattle.program.specs.Responses.{line_room, longest, budget, respond_of}
@@ -272,7 +272,7 @@ module _ (e : Equipment) where
   nothing-more : (k : Session) (more : List ℕ) → is_done k.state ≡ true → k.text ++ still k more ≡ k.text
   nothing-more k more p = rw (done-resume e k.state (take (budget k.state) (k.left ++ more)) p) (append-nil k.text)
 
-  ends-known : (cs : List Delivery) (cause : Refusal) (n : ℕ) → (read_sheet (cut cs)).check ≡ SettingsCheck.Refused cause n
+  ends-known : (cs : List Delivery) (cause : Refusal) (n : ℕ) → (read_sheet (cut cs)).check ≡ settings_refused cause n
       → has_feed (drop (read_sheet (cut cs)).start (cut cs)) ≡ true
       → has_feed (after cs).left ≡ false → is_done (after cs).state ≡ true
   ends-known cs cause n c f left =

@@ -1,5 +1,6 @@
 -- From the start, what is written for the lines of an input is the input's transcript.
 -- Assumes nothing.
+use Rattle.std.specs.Prelude.{Ok, Err}
 use mathlib.Core.Path.{◌≡◌, refl, sym, ap, ◌∙◌, subst}
 use mathlib.Core.Bool.{Bool, true, false, false≢true}
 use mathlib.Core.List.{List, [], ◌∷◌, ◌++◌, append-nil}
@@ -21,14 +22,14 @@ use Rattle.rules.specs.declared.Settings.{Settings}
 use Rattle.rules.specs.declared.Board.{Board}
 use Rattle.rules.specs.declared.Refusal.{Refusal}
 use Rattle.rules.specs.declared.Refusal.TheVariants.{Form}
-use Rattle.rules.specs.declared.SettingsCheck.{SettingsCheck}
+use Rattle.rules.specs.declared.SheetRefusal.{SheetRefusal}
+use Rattle.rules.specs.Answers.{settings_refused}
 use Rattle.rules.specs.declared.Stepped.{Stepped}
 use Rattle.text.proofs.Lines.{line_after}
-use Rattle.sheet.specs.LineReads.{line_read}
-use Rattle.sheet.specs.declared.LineRead.{LineRead}
+use Rattle.sheet.specs.LineReads.{LineRead, line_read}
 use Rattle.sheet.proofs.Reading.{from, from-unended, from_end, on-accepted, on-refused}
 use Rattle.program.specs.States.{start, stopped}
-use Rattle.program.specs.Saying.{Said, on_read, on_check, stage_after, said, begun_line, closing_text, end_text, resume}
+use Rattle.program.specs.Saying.{Said, on_read, stage_after, said, begun_line, closing_text, end_text, resume}
 use Rattle.program.specs.declared.State.{State}
 use Rattle.program.proofs.Framing.{lines-fed, lines-unfed}
 use Rattle.program.proofs.Saying.{said-sheet, said-sample, end-at-sheet, end-at-samples}
@@ -128,14 +129,16 @@ module _ (e : Equipment) (s : List ℕ) (i at : ℕ) (lines : List (List Pair)) 
         → resume e (reading (settings_of lines) i at) (drop at s) ≡ r.text ++ resume e r.state (drop past s)
     then r p = resume-fed e (reading (settings_of lines) i at) (drop at s) f ∙ rw (said_read, p, after_is)
 
-    refused-text : (cause : Refusal) (n : ℕ) → read.check ≡ SettingsCheck.Refused cause n
+    refused-text : (away : SheetRefusal) → read ≡ Err away
         → resume e (reading (settings_of lines) i at) (drop at s) ≡ to_the_end e s (from s i at lines)
-    refused-text cause n c =
-        let r = on-refused s i at lines h f long read refl cause n c in
+    refused-text away c =
+        let cause = away.cause in
+        let n = away.line in
+        let r = on-refused s i at lines h f long away c in
         let q = reading (settings_of lines) i at in
         let closes : refused_line (refusal_number cause) n ++ resume e (stopped q (length line + 1)) (drop past s) ≡ refused_line (refusal_number cause) (i + 1)
         = rw (done-resume e (stopped q (length line + 1)) (drop past s) refl) (append-nil _ ∙ ap (refused_line (refusal_number cause)) r.1) in
-        then (on_check q (length line + 1) read.settings (SettingsCheck.Refused cause n)) (ap (on_check q (length line + 1) read.settings) c)
+        then (on_read q (length line + 1) (Err away)) (ap (on_read q (length line + 1)) c)
         ∙ closes
         ∙ sym (ap (to_the_end e s) r.0)
 
@@ -146,24 +149,24 @@ module _ (e : Equipment) (s : List ℕ) (i at : ℕ) (lines : List (List Pair)) 
     abbrev Rest : Type 0
     Rest = (more : List (List Pair)) → length more ≡ i + 1 → resume e (onward (settings_of more)) (drop past s) ≡ to_the_end e s (from s (i + 1) past more)
 
-    accepted-by : read.check ≡ SettingsCheck.Accepted → Rest → (more : List (List Pair)) → length more ≡ i + 1 → read.settings ≡ settings_of more
+    accepted-by : (next : Settings) → read ≡ Ok next → Rest → (more : List (List Pair)) → length more ≡ i + 1 → next ≡ settings_of more
         → from s i at lines ≡ from s (i + 1) past more
         → resume e (reading (settings_of lines) i at) (drop at s) ≡ to_the_end e s (from s i at lines)
-    accepted-by c rest more l st is =
+    accepted-by next c rest more l st is =
         let same : at + (length line + 1) ≡ past = omega arith in
         let q = reading (settings_of lines) i at in
-        let onto : on_check q (length line + 1) read.settings read.check ≡ record { state = onward (settings_of more); text = [] } = rw (c, st, same) in
+        let onto : on_read q (length line + 1) read ≡ record { state = onward (settings_of more); text = [] } = rw (c, st, same) in
         then (record { state = onward (settings_of more); text = [] }) onto ∙ rest more l ∙ sym (ap (to_the_end e s) is)
 
-    accepted-text : read.check ≡ SettingsCheck.Accepted → Rest → resume e (reading (settings_of lines) i at) (drop at s) ≡ to_the_end e s (from s i at lines)
-    accepted-text c rest =
-        let g = on-accepted s i at lines h f long read refl c in
-        accepted-by c rest (lines ++ (g.read ∷ [])) (length-append lines (g.read ∷ []) ∙ ap (λ (n : ℕ). n + 1) long) g.settings g.reading
+    accepted-text : (next : Settings) → read ≡ Ok next → Rest → resume e (reading (settings_of lines) i at) (drop at s) ≡ to_the_end e s (from s i at lines)
+    accepted-text next c rest =
+        let g = on-accepted s i at lines h f long next c in
+        accepted-by next c rest (lines ++ (g.read ∷ [])) (length-append lines (g.read ∷ []) ∙ ap (λ (n : ℕ). n + 1) long) g.settings g.reading
 
     -- the line's two outcomes
-    by-check : Rest → (c : SettingsCheck) → read.check ≡ c → resume e (reading (settings_of lines) i at) (drop at s) ≡ to_the_end e s (from s i at lines)
-    by-check rest SettingsCheck.Accepted c = accepted-text c rest
-    by-check rest (SettingsCheck.Refused cause n) c = refused-text cause n c
+    by-read : Rest → (r : LineRead) → read ≡ r → resume e (reading (settings_of lines) i at) (drop at s) ≡ to_the_end e s (from s i at lines)
+    by-read rest (Ok next) c = accepted-text next c rest
+    by-read rest (Err away) c = refused-text away c
 
 -- past the thirteenth line
 sheet-done : (e : Equipment) (s : List ℕ) (at : ℕ) (lines : List (List Pair)) (i : ℕ) → i ≡ sheet_lines
@@ -181,9 +184,9 @@ sheet-within e zero s i at lines is long = by (has_feed (drop at s)) refl
     by : (b : Bool) → has_feed (drop at s) ≡ b → resume e (reading (settings_of lines) i at) (drop at s) ≡ to_the_end e s (from s i at lines)
     by false f = unended-text e s i at lines (omega arith) long f
     by true f =
-        by-check e s i at lines (omega arith) long f
+        by-read e s i at lines (omega arith) long f
         (λ more l. rw (eq-eqb (i + 1) sheet_lines (omega arith)) (sheet-done e s (past e s i at lines (omega arith) long) more (i + 1) (omega arith)))
-        (line_read i (first_line (drop at s)) (settings_of lines)).check refl
+        (line_read i (first_line (drop at s)) (settings_of lines)) refl
 sheet-within e (suc k) s i at lines is long =
     by (has_feed (drop at s)) refl (λ more l. sheet-within e k s (i + 1) (at + length (first_line (drop at s)) + 1) more (omega arith) l)
   where
@@ -194,9 +197,9 @@ sheet-within e (suc k) s i at lines is long =
         → resume e (reading (settings_of lines) i at) (drop at s) ≡ to_the_end e s (from s i at lines)
     by false f rest = unended-text e s i at lines (omega arith) long f
     by true f rest =
-        by-check e s i at lines (omega arith) long f
+        by-read e s i at lines (omega arith) long f
         (λ more l. rw (ne_eqb (i + 1) sheet_lines (λ z. omega arith)) (rest more l))
-        (line_read i (first_line (drop at s)) (settings_of lines)).check refl
+        (line_read i (first_line (drop at s)) (settings_of lines)) refl
 
 pub resume-start : (e : Equipment) (s : List ℕ) → resume e start s ≡ transcript_of e s
 unfolding start transcript_of_by read_sheet
@@ -208,7 +211,7 @@ resume-start e s = sheet-within e 12 s 0 0 [] (omega arith) refl
 record Known (s : List ℕ) (r : SheetReading) : Type 0 where
   pub cause : Refusal
   pub line : ℕ
-  pub check : r.check ≡ SettingsCheck.Refused cause line
+  pub check : r.check ≡ settings_refused cause line
   pub fed : has_feed (drop r.start s) ≡ true
 
 known_by : (e : Equipment) (s : List ℕ) (i at : ℕ) (lines : List (List Pair)) (h : i < sheet_lines) (long : length lines ≡ i) → Known s (from s i at lines)
@@ -226,7 +229,7 @@ known_by : (e : Equipment) (s : List ℕ) (i at : ℕ) (lines : List (List Pair)
 known_by e s i at lines h long k false f rest =
     let same = from-unended s i at lines h f in
     absurd (false≢true (sym f ∙ rw same at k.fed))
-known_by e s i at lines h long k true f rest = by line-read.check refl
+known_by e s i at lines h long k true f rest = by line-read refl
   where
     line-read : LineRead
     line-read = line_read i (first_line (drop at s)) (settings_of lines)
@@ -238,16 +241,15 @@ known_by e s i at lines h long k true f rest = by line-read.check refl
         → done_after e q (lines_in (drop at s)) ≡ done_after e r.state (lines_in (drop (at + length (first_line (drop at s)) + 1) s))
     stepped r p = done-fed e q (drop at s) f ∙ rw (said_read e s i at lines h long, p, after_is e s i at lines h long f)
 
-    by : (c : SettingsCheck) → line-read.check ≡ c → done_after e q (lines_in (drop at s)) ≡ true
-    by (SettingsCheck.Refused cause n) c =
-        stepped (on_check q (length (first_line (drop at s)) + 1) line-read.settings (SettingsCheck.Refused cause n))
-        (ap (on_check q (length (first_line (drop at s)) + 1) line-read.settings) c)
+    by : (r : LineRead) → line-read ≡ r → done_after e q (lines_in (drop at s)) ≡ true
+    by (Err away) c =
+        stepped (on_read q (length (first_line (drop at s)) + 1) (Err away)) (ap (on_read q (length (first_line (drop at s)) + 1)) c)
         ∙ done-done e (stopped q (length (first_line (drop at s)) + 1)) (lines_in (drop (at + length (first_line (drop at s)) + 1) s)) refl
-    by SettingsCheck.Accepted c =
-        let g = on-accepted s i at lines h f long line-read refl c in
+    by (Ok next) c =
+        let g = on-accepted s i at lines h f long next c in
         go (lines ++ (g.read ∷ [])) (length-append lines (g.read ∷ []) ∙ ap (λ (n : ℕ). n + 1) long) g.settings g.reading
       where
-        go : (more : List (List Pair)) → length more ≡ i + 1 → line-read.settings ≡ settings_of more
+        go : (more : List (List Pair)) → length more ≡ i + 1 → next ≡ settings_of more
             → from s i at lines ≡ from s (i + 1) (at + length (first_line (drop at s)) + 1) more → done_after e q (lines_in (drop at s)) ≡ true
         go more l st is =
             let same : at + (length (first_line (drop at s)) + 1) ≡ at + length (first_line (drop at s)) + 1 = omega arith in
@@ -261,13 +263,13 @@ known-within e zero s i at lines is long known =
     known_by e s i at lines (omega arith) long known (has_feed (drop at s)) refl
     (λ more l n.
     let whole = from_end s (i + 1) (at + length (first_line (drop at s)) + 1) more (omega arith) in
-    let clash : SettingsCheck.Accepted ≡ SettingsCheck.Refused n.cause n.line = sym (ap (λ (r : SheetReading). r.check) whole) ∙ n.check in
+    let clash : Ok tt ≡ settings_refused n.cause n.line = sym (ap (λ (r : SheetReading). r.check) whole) ∙ n.check in
     let z : ◌≡◌ {A = ℕ} 0 1 = cc in absurd (omega arith))
 known-within e (suc k) s i at lines is long known =
     known_by e s i at lines (omega arith) long known (has_feed (drop at s)) refl
     (λ more l n. rw (ne_eqb (i + 1) sheet_lines (λ z. omega arith)) (known-within e k s (i + 1) (at + length (first_line (drop at s)) + 1) more (omega arith) l n))
 
-pub known-ends : (e : Equipment) (s : List ℕ) (cause : Refusal) (n : ℕ) → (read_sheet s).check ≡ SettingsCheck.Refused cause n
+pub known-ends : (e : Equipment) (s : List ℕ) (cause : Refusal) (n : ℕ) → (read_sheet s).check ≡ settings_refused cause n
     → has_feed (drop (read_sheet s).start s) ≡ true
     → done_after e start (lines_in s) ≡ true
 unfolding start read_sheet

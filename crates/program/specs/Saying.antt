@@ -1,6 +1,6 @@
 -- Spec 10.3 to 10.8: what the program writes for each line, from a state, and at the end.
 -- Assumes nothing.
-use Rattle.std.specs.Prelude.{Bool, true, false, cond, ◌||◌, List, [], ◌∷◌, ◌++◌, ℕ, ◌+◌, ◌-◌, eqb, ℤ, length}
+use Rattle.std.specs.Prelude.{Bool, true, false, cond, ◌||◌, List, [], ◌∷◌, ◌++◌, ℕ, ◌+◌, ◌-◌, eqb, ℤ, length, Ok, Err}
 use Rattle.std.proofs.Math.Option.{Option, none}
 use Rattle.rules.specs.Settings.{sheet_lines}
 use Rattle.rules.specs.Refusals.{refusal_number}
@@ -9,12 +9,10 @@ use Rattle.rules.specs.Forms.{sample_form, numbers_of}
 use Rattle.rules.specs.Transcripts.{Line, ended, unended, lines_in, refused_line, answer_line, on_sample_numbers}
 use Rattle.rules.specs.declared.Settings.{Settings}
 use Rattle.rules.specs.declared.Refusal.TheVariants.{Form, Sample}
-use Rattle.rules.specs.declared.SettingsCheck.{SettingsCheck}
-use Rattle.rules.specs.declared.Answer.{Answer}
+use Rattle.rules.specs.Answers.{Answer}
 use Rattle.rules.specs.declared.Stepped.{Stepped}
 use Rattle.formats.specs.Marks.{form_at}
-use Rattle.sheet.specs.LineReads.{on_line}
-use Rattle.sheet.specs.declared.LineRead.{LineRead}
+use Rattle.sheet.specs.LineReads.{LineRead, on_line}
 use Rattle.program.specs.States.{is_done, reads_sheet, stopped}
 use Rattle.program.specs.declared.State.{State}
 
@@ -34,16 +32,13 @@ abbrev pub stage_after : ℕ → ℕ
 stage_after line = cond (eqb line sheet_lines) 1 0
 
 -- spec 10.6: a refused sheet ends all; n is how many bytes the line took
-abbrev pub on_check : State → ℕ → Settings → SettingsCheck → Said
-on_check q n st (SettingsCheck.Refused cause line) = record { state = stopped q n; text = refused_line (refusal_number cause) line }
-on_check q n st SettingsCheck.Accepted =
+abbrev pub on_read : State → ℕ → LineRead → Said
+on_read q n (Err away) = record { state = stopped q n; text = refused_line (refusal_number away.cause) away.line }
+on_read q n (Ok st) =
     record {
       state = record { stage = stage_after q.line; line = q.line + 1; overlong = false; taken = q.taken + n; settings = st; board = q.board };
       text = [];
     }
-
-abbrev pub on_read : State → ℕ → LineRead → Said
-on_read q n r = on_check q n r.settings r.check
 
 abbrev pub sheet_line : State → List ℕ → Said
 sheet_line q l = on_read q (length l + 1) (on_line (q.line - 1) q.settings (line_numbers q.overlong (form_at (q.line - 1)) l))

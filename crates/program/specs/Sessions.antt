@@ -6,7 +6,7 @@ use Rattle.rules.specs.Text.{first_line, has_feed}
 use Rattle.rules.specs.Sheets.{read_sheet}
 use Rattle.rules.specs.Transcripts.{input_end, lines_in, answers_from, transcript}
 use Rattle.rules.specs.declared.Refusal.{Refusal}
-use Rattle.rules.specs.declared.SettingsCheck.{SettingsCheck}
+use Rattle.rules.specs.Answers.{settings_refused}
 use Rattle.program.specs.States.{start, is_done, stopped, sensible}
 use Rattle.program.specs.Responses.{budget, line_room, longest, respond_of}
 use Rattle.program.specs.declared.State.{State}
@@ -109,7 +109,7 @@ pub record TranscriptLaw (e : Equipment) : Type 0 where
       → (ending e (during e opened cs) sizes).state.overlong ≡ false
       → (ending e (during e opened cs) sizes).text ≡ transcript e (take (ending e (during e opened cs) sizes).state.taken (input_of cs))
   -- a refused sheet ends all as soon as its line is known: the refused line has its line feed, and no whole line is left
-  pub refused : (cs : List Delivery) (cause : Refusal) (n : ℕ) → (read_sheet (cut cs)).check ≡ SettingsCheck.Refused cause n
+  pub refused : (cs : List Delivery) (cause : Refusal) (n : ℕ) → (read_sheet (cut cs)).check ≡ settings_refused cause n
       → has_feed (drop (read_sheet (cut cs)).start (cut cs)) ≡ true → has_feed (during e opened cs).left ≡ false
       → is_done (during e opened cs).state ≡ true
   -- before the input's end, what was written begins its transcript, whatever comes

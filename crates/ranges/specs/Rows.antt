@@ -1,4 +1,4 @@
--- Spec 3.5: the table of allowed values as the code holds it, and a row by its line, counted from 0.
+-- Spec 3.5: the row of allowed values as the code holds it, and a row of the table by its line, counted from 0.
 -- Assumes nothing.
 use Rattle.std.specs.Prelude.{ℕ, get_or}
 use Rattle.rules.specs.Settings as rules

@@ -1,10 +1,10 @@
 // Spec 3.5: the table of allowed values, and the one range check that reads it.
 #![tactic(auto)]
 
-ghost use Rattle.std.specs.Prelude.{◌≡◌, ◌&&◌, map};
+ghost use Rattle.std.specs.Prelude.{◌≡◌, ◌&&◌, map, ◌<◌};
 ghost use Rattle.std.specs.Int.Signed.{le_z};
-ghost use Rattle.rules.specs.Settings.{rows, in_row};
-ghost use Rattle.ranges.specs.Rows.{row_of};
+ghost use Rattle.rules.specs.Settings.{sheet_lines, rows, in_row};
+ghost use Rattle.ranges.specs.Rows.{row_of, row_at};
 ghost use Rattle.ranges.specs.Pairs.{pair_of};
 
 use rules::SHEET_LINES;
@@ -16,7 +16,7 @@ pub struct Pair {
     pub second: i64,
 }
 
-// Lowest and highest of a line's first number, then of its second, ends included.
+// Lowest and highest of a line's first number, then of its second, ends included. A constant's value calls nothing, and so holds no `a..=b`.
 #[derive(Clone, Copy)]
 pub struct Row(pub i64, pub i64, pub i64, pub i64);
 
@@ -38,6 +38,7 @@ const ROWS: [Row; SHEET_LINES] = [
 ];
 
 // The whole table.
+#[tactic(auto, unfolding(rules::specs::Settings::rows))]
 pub fn row_table() -> [Row; SHEET_LINES]
     ensures { map row_of result ≡ rows }
 {
@@ -48,7 +49,7 @@ pub fn row_table() -> [Row; SHEET_LINES]
 fn within(low: i64, high: i64, n: i64) -> bool
     ensures { result ≡ (le_z low n && le_z n high) }
 {
-    low <= n && n <= high
+    (low..=high).contains(&n)
 }
 
 // Whether a pair lies in a row.
@@ -56,4 +57,13 @@ pub fn in_row(row: Row, p: Pair) -> bool
     ensures { result ≡ in_row (row_of row) (pair_of p) }
 {
     within(row.0, row.1, p.first) && within(row.2, row.3, p.second)
+}
+
+// Whether a pair lies in the row of a line, counted from 0.
+#[tactic(auto, unfolding(rules::specs::Settings::rows))]
+pub fn in_line(line: usize, p: Pair) -> bool
+    requires { line < sheet_lines }
+    ensures { result ≡ in_row (row_at line) (pair_of p) }
+{
+    in_row(ROWS[line], p)
 }

@@ -19,9 +19,8 @@ reading_of e x =
       limit = operator_limit x;
     }
 
--- what the powers ask of the settings and of a reading
-pub record Exportable (r : Reading) (s : Settings) : Type 0 where
-  pub sheet : settings_accepted s ≡ true
+-- what the powers ask of a reading
+pub record Exportable (r : Reading) : Type 0 where
   pub frequency-top : r.frequency ≤ 80000
   pub available-top : r.available ≤ 10000
   pub limit-top : r.limit ≤ 10000

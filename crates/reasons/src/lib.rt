@@ -5,7 +5,7 @@ ghost use Rattle.std.specs.Prelude.{◌≡◌};
 ghost use Rattle.reasons.specs.Numbers.{status_rule_number, limit_place, watts_rule_number};
 
 // The rule that held a status; `status_rule_number` of specs/ gives each case its number, and `limit_place` its value.
-#[derive(Clone, Copy)]
+#[derive(Clone, Copy, Debug, PartialEq, Eq)]
 pub enum StatusRule {
     Permission,
     TripLimit(u8),
@@ -16,17 +16,17 @@ pub enum StatusRule {
     Frequency,
 }
 
-// The rule that held the watts; `watts_rule_number` of specs/ gives each case its number.
-#[derive(Clone, Copy)]
+// The rule that held the watts, each with its number (spec 8.8).
+#[derive(Clone, Copy, Debug, PartialEq, Eq)]
 pub enum WattsRule {
-    Status,
-    AvailablePower,
-    OperatorsLimit,
-    RampShare,
-    VoltWatt,
-    NameplateRating,
-    CessationRecovery,
-    FrequencyDroop,
+    Status = 1,
+    AvailablePower = 2,
+    OperatorsLimit = 3,
+    RampShare = 4,
+    VoltWatt = 5,
+    NameplateRating = 6,
+    CessationRecovery = 7,
+    FrequencyDroop = 8,
 }
 
 // The number of a status's rule.
@@ -48,14 +48,10 @@ pub fn status_rule_number(rule: StatusRule) -> u8
 pub fn limit_place(rule: StatusRule) -> u8
     ensures { result ≡ limit_place rule }
 {
-    match rule {
-        StatusRule::Permission => 0,
-        StatusRule::TripLimit(place) => place,
-        StatusRule::WaitNotFull => 0,
-        StatusRule::Returned => 0,
-        StatusRule::LowestVoltage => 0,
-        StatusRule::HighestVoltage => 0,
-        StatusRule::Frequency => 0,
+    if let StatusRule::TripLimit(place) = rule {
+        place
+    } else {
+        0
     }
 }
 
@@ -63,14 +59,5 @@ pub fn limit_place(rule: StatusRule) -> u8
 pub fn watts_rule_number(rule: WattsRule) -> u8
     ensures { result ≡ watts_rule_number rule }
 {
-    match rule {
-        WattsRule::Status => 1,
-        WattsRule::AvailablePower => 2,
-        WattsRule::OperatorsLimit => 3,
-        WattsRule::RampShare => 4,
-        WattsRule::VoltWatt => 5,
-        WattsRule::NameplateRating => 6,
-        WattsRule::CessationRecovery => 7,
-        WattsRule::FrequencyDroop => 8,
-    }
+    rule as u8
 }

@@ -1,6 +1,6 @@
 -- The numbers seven by seven, and the calls that lend them.
 -- Assumes nothing.
-use mathlib.Core.Path.{◌≡◌, refl, ap, ap₂, ◌∙◌}
+use mathlib.Core.Path.{◌≡◌, refl, sym, ap, ap₂, ◌∙◌}
 use mathlib.Core.List.{List, [], ◌∷◌, ◌++◌, map}
 use mathlib.Core.Logic.{inl}
 use Prim.Native.Nat.{ℕ, zero, suc, ◌+◌, ◌-◌, ◌*◌, ◌/◌, ◌≤◌, ◌<◌, min}
@@ -78,22 +78,32 @@ module _ (st : Settings) where
       (calls-more x seven k (drop group_length s) (omega (arith, length-drop group_length s)))
       ∙ rw (calls-next s (omega arith))
 
--- ---- the group at a place, as it is lent
+-- ---- a chunk of at most seven, taken off what is left
 
-module _ (s : List ℕ) (at end : ℕ) (more : at < length s) (ends : end ≡ at + min group_length (length s - at)) where
-  pub group-lent : take (end - at) (drop at s) ≡ take group_length (drop at s)
-  group-lent = by (dec_le group_length (length s - at))
-    where
-      by : Dec (group_length ≤ length s - at) → take (end - at) (drop at s) ≡ take group_length (drop at s)
-      by (yes whole) = let same : end - at ≡ group_length = omega arith in rw same
-      by (no short) =
-          take_all (end - at) (drop at s) (omega (arith, length-drop at s, short))
-          ∙ rw (take_all group_length (drop at s) (omega (arith, length-drop at s, short)))
+module _ (rest x next : List ℕ) (apart : rest ≡ x ++ next) (long : length x ≡ min group_length (length rest)) where
+  lengths : length rest ≡ length x + length next
+  lengths = ap length apart ∙ length-append x next
 
-  pub groups-left : drop group_length (drop at s) ≡ drop end s
-  groups-left = drop-drop group_length at s ∙ by (dec_le group_length (length s - at))
+  chunk-first : take group_length rest ≡ x
+  chunk-first = by (dec_le group_length (length rest))
     where
-      by : Dec (group_length ≤ length s - at) → drop (at + group_length) s ≡ drop end s
-      by (yes whole) = let same : at + group_length ≡ end = omega arith in ap (λ (n : ℕ). drop n s) same
+      by : Dec (group_length ≤ length rest) → take group_length rest ≡ x
+      by (yes whole) = ap (take group_length) apart ∙ take_at x next group_length (omega (arith, long))
       by (no short) =
-          drop_of_length-le s {i = at + group_length} (omega (arith, short)) ∙ rw (drop_of_length-le s {i = end} (omega (arith, short)))
+          take_all group_length rest (omega (arith, short)) ∙ sym (take_all (length x) rest (omega (arith, long, short)))
+          ∙ ap (take (length x)) apart ∙ take_at x next (length x) refl
+
+  chunk-rest : drop group_length rest ≡ next
+  chunk-rest = by (dec_le group_length (length rest))
+    where
+      by : Dec (group_length ≤ length rest) → drop group_length rest ≡ next
+      by (yes whole) = ap (drop group_length) apart ∙ drop_at x next group_length (omega (arith, long))
+      by (no short) =
+          drop_of_length-le rest {i = group_length} (omega (arith, short)) ∙ sym (drop_of_length-le rest {i = length x} (omega (arith, long, short)))
+          ∙ ap (drop (length x)) apart ∙ drop_at x next (length x) refl
+
+  pub chunk-called : (st : Settings) → 0 < length rest → calls_of st rest ≡ call_of st x ∷ calls_of st next
+  chunk-called st some = calls-next st rest some ∙ ap₂ (λ (y : Slice) (r : List ℕ). call_of st y ∷ calls_of st r) chunk-first chunk-rest
+
+  pub fewer : 0 < length rest → length next < length rest
+  fewer some = omega (arith, lengths, long)

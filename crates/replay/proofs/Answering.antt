@@ -1,5 +1,6 @@
 -- What a replay answers and leaves of the buffer, refused or not.
 -- Assumes nothing.
+use Rattle.std.specs.Prelude.{Ok, Err}
 use mathlib.Core.Path.{◌≡◌, refl, sym, ap, ap₂, ◌∙◌}
 use mathlib.Core.Bool.{Bool, true, false, cond, not}
 use mathlib.Core.List.{List, [], ◌∷◌, ◌++◌, map}
@@ -18,7 +19,7 @@ use Rattle.rules.specs.Images.{image_length, save_check, saved_into}
 use Rattle.rules.specs.declared.Settings.{Settings}
 use Rattle.rules.specs.declared.Refusal.{Refusal}
 use Rattle.rules.specs.declared.Refusal.TheVariants.{Buffer}
-use Rattle.rules.specs.declared.SettingsCheck.{SettingsCheck}
+use Rattle.rules.specs.Answers.{SettingsCheck, settings_refused}
 use Rattle.causes.specs.Calls.{Run, fresh_report, accepted_samples}
 use Rattle.causes.specs.FirstCause.{Cause, cause, first, line_causes, settings_causes}
 use Rattle.causes.specs.Alike.{Alike}
@@ -77,22 +78,22 @@ module _ (e : Equipment) (st : Settings) (samples buffer : List ℕ) where
       by zero m p h = absurd (omega arith)
       by (suc n) m p h = ap (λ (k : ℕ). record { number = k; accepted = 0; report = fresh_report }) (sym p)
 
-  pub by-2-or-3 : (cause : Refusal) (line : ℕ) → settings_check st ≡ SettingsCheck.Refused cause line
+  pub by-2-or-3 : (cause : Refusal) (line : ℕ) → settings_check st ≡ settings_refused cause line
       → (replay_refused cause ≡ replayed_by e st samples buffer) × (buffer ≡ replayed_into_by e st samples buffer)
-  by-2-or-3 cause line told = away cause (by-settings st samples buffer (SettingsCheck.Refused cause line) told)
+  by-2-or-3 cause line told = away cause (by-settings st samples buffer (settings_refused cause line) told)
 
-  pub by-9 : settings_check st ≡ SettingsCheck.Accepted → length buffer < image_length
+  pub by-9 : settings_check st ≡ Ok tt → length buffer < image_length
       → (replay_refused Buffer ≡ replayed_by e st samples buffer) × (buffer ≡ replayed_into_by e st samples buffer)
-  by-9 told short = away Buffer (by-settings st samples buffer SettingsCheck.Accepted told ∙ saved-9 st samples buffer short)
+  by-9 told short = away Buffer (by-settings st samples buffer (Ok tt) told ∙ saved-9 st samples buffer short)
 
   -- ---- where it is not
 
-  pub through : settings_check st ≡ SettingsCheck.Accepted → image_length ≤ length buffer → (r : Ran) → r ≡ ran_by e st samples
+  pub through : settings_check st ≡ Ok tt → image_length ≤ length buffer → (r : Ran) → r ≡ ran_by e st samples
       → (after : List ℕ) → after ≡ saved_into r.board buffer
       → (record { number = 0; accepted = r.accepted; report = r.report } ≡ replayed_by e st samples buffer) × (after ≡ replayed_into_by e st samples buffer)
   unfolding replayed_by replayed_into_by ran_by
   through told room r is after into =
-      let none : replay_number st buffer ≡ 0 = by-settings st samples buffer SettingsCheck.Accepted told ∙ saved-0 st samples buffer room in
+      let none : replay_number st buffer ≡ 0 = by-settings st samples buffer (Ok tt) told ∙ saved-0 st samples buffer room in
       rw (none, is) (refl, into ∙ rw is)
 
 -- ---- the first cause, of the settings and then of the buffer
@@ -113,8 +114,8 @@ lines_then (r ∷ rs) (ps ∷ ls) ds = by (not (all (map (in_row r) ps))) (not (
 then-saved : (st : Settings) (buffer : List ℕ) (check : SettingsCheck)
     → cond (settings_passed check) (saved_number (save_check buffer)) (settings_number check)
     ≡ unless_refused (settings_number check) (saved_number (save_check buffer)) (settings_number check)
-then-saved st buffer SettingsCheck.Accepted = refl
-then-saved st buffer (SettingsCheck.Refused c line) = sym (kept (refusal_number c) (saved_number (save_check buffer)) (refusal_number c) (number-bounds c).0)
+then-saved st buffer (Ok ok) = refl
+then-saved st buffer (Err away) = sym (kept (refusal_number away.cause) (saved_number (save_check buffer)) (refusal_number away.cause) (number-bounds away.cause).0)
 
 pub number-first : (st : Settings) (buffer : List ℕ)
     → replay_number st buffer ≡ first (settings_causes st ++ (cause 9 (ltb (length buffer) image_length) ∷ []))

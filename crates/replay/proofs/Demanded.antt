@@ -1,5 +1,6 @@
 -- What is claimed of a replay holds of (ruled_by e) with any equipment that is sound.
 -- Assumes nothing.
+use Rattle.std.specs.Prelude.{Ok, Err}
 use mathlib.Core.Path.{◌≡◌, refl, sym, ap, subst, ◌∙◌}
 use mathlib.Core.Bool.{true}
 use mathlib.Core.Logic.{inl, ◌↔◌}
@@ -14,7 +15,7 @@ use Rattle.rules.specs.History.{History, followed_by, history_report}
 use Rattle.rules.specs.Images.{image_length, saved_into}
 use Rattle.rules.specs.declared.Settings.{Settings}
 use Rattle.rules.specs.declared.Board.{Board}
-use Rattle.rules.specs.declared.SettingsCheck.{SettingsCheck}
+use Rattle.rules.specs.Answers.{SettingsCheck, settings_refused}
 use Rattle.causes.specs.Calls.{Call, Program, Run, ruled_by, called, called_all, run_of}
 use Rattle.claims.specs.Sound.{Sound}
 use Rattle.claims.specs.TripAndReturn.{Next, TripAndReturn}
@@ -95,9 +96,9 @@ module _ (e : Equipment) (sound : Sound e) where
   rest-kept st samples buffer = by (replay_number st buffer) refl
     where
       accepted : (check : SettingsCheck) → settings_check st ≡ check → replay_number st buffer ≡ 0 → settings_passed check ≡ true
-      accepted SettingsCheck.Accepted told is = refl
-      accepted (SettingsCheck.Refused c line) told is =
-          absurd (omega (arith, is, by-settings st samples buffer (SettingsCheck.Refused c line) told, (number-bounds c).0))
+      accepted (Ok ok) told is = refl
+      accepted (Err away) told is =
+          absurd (omega (arith, is, by-settings st samples buffer (settings_refused away.cause away.line) told, (number-bounds away.cause).0))
 
       by : (n : ℕ) → replay_number st buffer ≡ n
           → drop image_length (unless_refused n (saved_into (run_over e st samples).board buffer) buffer) ≡ drop image_length buffer

@@ -10,10 +10,11 @@ ghost use Rattle.replay.specs.Replays.{replay_refused, replayed_by, replayed_int
 use freshboard::fresh_report;
 use image::save;
 use recording::step_all;
-use rules::{IMAGE_LENGTH, Refusal, Report, Settings, SettingsCheck, refusal_number};
-use sensing::table;
+use rules::{IMAGE_LENGTH, Refusal, Report, Settings};
+use sensing::{SensingTable, table};
 
 // What a replay answers: 0 or the refusal's number, how many samples were accepted, and the last report.
+// No Result: by value a refused replay answers a report too (spec 5.6), and `ReplaysRightly` of specs/ is claimed of it and of the exported call alike.
 #[derive(Clone, Copy)]
 pub struct Replayed {
     pub number: u32,
@@ -26,7 +27,7 @@ fn refused(cause: Refusal) -> Replayed
     ensures { result ≡ replay_refused cause }
 {
     Replayed {
-        number: refusal_number(cause) as u32,
+        number: u32::from(cause),
         accepted: 0,
         report: fresh_report(),
     }
@@ -34,22 +35,26 @@ fn refused(cause: Refusal) -> Replayed
 
 // Replays lent samples with a sensing table lent, and saves the image. Settings are checked for 2 and 3 in sheet order, then the buffer for 9;
 // a refused replay leaves the buffer as it was. A refused sample is no step and does not refuse the replay.
-pub fn replay_by(table: &[u16], settings: Settings, samples: &[u32], buffer: &mut [u8]) -> Replayed
-    requires { length table.now ≡ 4096 }
+pub fn replay_by(
+    table: &SensingTable,
+    settings: Settings,
+    samples: &[u32],
+    buffer: &mut [u8],
+) -> Replayed
     ensures value { (result ≡ replayed_by (equipped_with table.now) settings samples.now buffer.old)
         × (buffer.new ≡ replayed_into_by (equipped_with table.now) settings samples.now buffer.old) }
     ensures number_value { result.number ≡ first (settings_causes settings ++ (cause 9 (ltb (length buffer.old) image_length) ∷ [])) }
 {
-    match settings::check(settings) {
-        SettingsCheck::Refused(cause, _) => refused(cause),
-        SettingsCheck::Accepted => {
+    match settings::accept(settings) {
+        Err(away) => refused(away.cause),
+        Ok(accepted) => {
             if buffer.len() < IMAGE_LENGTH {
                 return refused(Refusal::Buffer);
             }
-            let run = step_all(table, settings, samples);
+            let run = step_all(table, accepted, samples);
             let board = run.board;
             let report = run.report;
-            save(board, buffer);
+            let _ = save(board, buffer);
             Replayed {
                 number: 0,
                 accepted: run.accepted,

@@ -2,7 +2,6 @@
 -- Assumes nothing.
 use Rattle.std.specs.Prelude.{Bool, ◌&&◌, List, ◌++◌, ℕ, ◌+◌, eqb, pos}
 use Rattle.rules.specs.Text.{bytes}
-use Rattle.rules.specs.Droop.{no_side}
 use Rattle.rules.specs.Service.{recovery_top}
 use Rattle.rules.specs.Transcripts.{bit_digits, spaced}
 use Rattle.rules.specs.declared.Report.{Report}
@@ -20,10 +19,6 @@ is_steady r = eqb r.status 2 && (eqb r.bits 1 && (eqb r.share 10000 && eqb r.rec
 -- side and held power, behind the front
 unfoldable pub event_numbers : ℕ → ℕ → List ℕ
 event_numbers side held = spaced (pos side) ++ spaced (pos held)
-
--- no event
-abbrev pub is_calm : ℕ → ℕ → Bool
-is_calm side held = eqb side no_side && eqb held 0
 
 -- ---- room: no part is longer
 

@@ -4,7 +4,7 @@
 ghost use Rattle.std.specs.Prelude.{◌≡◌, ◌+◌, ◌≤◌, length};
 ghost use Rattle.buffers.specs.Written.{Wrote};
 ghost use Rattle.spacednumbers.specs.Rooms.{number_room, long_room};
-ghost use Rattle.reportparts.specs.Parts.{head_room, event_room, report_head, is_steady, event_numbers, is_calm};
+ghost use Rattle.reportparts.specs.Parts.{head_room, event_room, report_head, is_steady, event_numbers};
 
 use pieces::bits::put_bits;
 use pieces::copies::{put, put_byte};
@@ -28,26 +28,10 @@ pub fn put_head(out: &mut [u8], at: usize, report: Report) -> usize
 pub fn is_steady(report: Report) -> bool
     ensures { result ≡ is_steady report }
 {
-    if report.status != 2 {
-        return false;
-    }
-    if report.bits != 1 {
-        return false;
-    }
-    if report.share != 10000 {
-        return false;
-    }
-    report.recovery == RECOVERY_TOP
-}
-
-// No event: side and held power are 0.
-fn is_calm(side: u8, held: u16) -> bool
-    ensures { result ≡ is_calm side held }
-{
-    if side != 0 {
-        return false;
-    }
-    held == 0
+    report.status == 2
+        && report.bits == 1
+        && report.share == 10000
+        && report.recovery == RECOVERY_TOP
 }
 
 // Side and held power: at once where there is no event.
@@ -56,10 +40,9 @@ pub fn put_event(out: &mut [u8], at: usize, side: u8, held: u16) -> usize
     ensures wrote { Wrote out.old at out.new result (event_numbers side held) }
     ensures upper_bound { result ≤ at + event_room }
 {
-    if is_calm(side, held) {
+    if side == 0 && held == 0 {
         return put(out, at, b" 0 0");
     }
-    let number = side as u16;
-    let a = put_number(out, at, number);
+    let a = put_number(out, at, u16::from(side));
     put_number(out, a, held)
 }

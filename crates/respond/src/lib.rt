@@ -11,7 +11,7 @@ mod begin;
 pub use begin::start;
 use program::State;
 use stages::handle;
-use states::{either, sensible, stop, within_budget};
+use states::{sensible, stop, within_budget};
 
 // What `respond` answers: the next state, how many bytes of the block it took, how many it wrote, and whether all is done.
 #[derive(Clone, Copy)]
@@ -40,7 +40,7 @@ pub fn respond(state: State, block: &[u8], last: bool, out: &mut [u8]) -> Respon
     }
     let budget = states::budget(state);
     let end = within_budget(block.len(), budget);
-    let ends = either(last, budget <= (block.len() as u64));
+    let ends = last || budget <= block.len() as u64;
     let r = handle(state, &block[0..end], ends, out);
     let next = r.state;
     let stage = next.stage;

@@ -1,14 +1,14 @@
 // Spec 6.7 to 6.9: the operating region.
 ghost use Rattle.std.specs.Prelude.{◌≡◌, true};
-ghost use Rattle.rules.specs.Regions.{voltage_region, frequency_region, rank, worse};
+ghost use Rattle.rules.specs.Regions.{voltage_region, frequency_region, worse};
 ghost use Rattle.rules.specs.declared.Region.TheVariants.{Continuous};
 ghost use Rattle.ridethrough.specs.Regions.{region_at};
 
-use numbers::within;
 use readings::reading::Reading;
 use rules::Region;
 
 // The region of a voltage (Category III).
+#[tactic(auto, unfolding(rules::specs::Regions::voltage_region))]
 pub fn voltage_region(v: u32) -> Region
     ensures { result ≡ voltage_region v }
 {
@@ -26,44 +26,22 @@ pub fn voltage_region(v: u32) -> Region
 }
 
 // The region of a frequency. Ride-through ends at 57000 and 62000, both still in it; beyond them the board ceases to energize.
+#[tactic(auto, unfolding(rules::specs::Regions::frequency_region, rules::specs::Tests::within))]
 pub fn frequency_region(f: u32) -> Region
     ensures { result ≡ frequency_region f }
 {
-    if within(58800, 61200, f) {
-        return Region::Continuous;
+    match f {
+        58800..=61200 => Region::Continuous,
+        57000..=62000 => Region::Mandatory,
+        _ => Region::Cease,
     }
-    if !within(57000, 62000, f) {
-        return Region::Cease;
-    }
-    Region::Mandatory
-}
-
-// Continuous, mandatory, momentary, cease.
-pub fn order(r: Region) -> u8
-    ensures { result ≡ rank r }
-{
-    match r {
-        Region::Continuous => 0,
-        Region::Mandatory => 1,
-        Region::Momentary => 2,
-        Region::Cease => 3,
-    }
-}
-
-fn worst(a: Region, b: Region) -> Region
-    ensures { result ≡ worse a b }
-{
-    if order(b) <= order(a) { a } else { b }
 }
 
 // The worst of lowest voltage, highest voltage and frequency.
 fn worst_region(low: u32, high: u32, frequency: u32) -> Region
     ensures { result ≡ worse (voltage_region low) (worse (voltage_region high) (frequency_region frequency)) }
 {
-    let a = voltage_region(low);
-    let b = voltage_region(high);
-    let c = frequency_region(frequency);
-    worst(a, worst(b, c))
+    voltage_region(low).max(voltage_region(high).max(frequency_region(frequency)))
 }
 
 // The operating region of a reading. One in the enter-service range is in the continuous region.
@@ -72,7 +50,8 @@ pub fn region(inside: bool, r: Reading) -> Region
     ensures { result ≡ region_at r }
 {
     if inside {
-        return Region::Continuous;
+        Region::Continuous
+    } else {
+        worst_region(r.low, r.high, r.frequency)
     }
-    worst_region(r.low, r.high, r.frequency)
 }

@@ -1,9 +1,9 @@
 -- Spec 9: the 49 bytes of a record, high byte first, and the saving.
 -- Assumes nothing.
-use Rattle.std.specs.Prelude.{cond, List, [], ◌∷◌, ◌++◌, map, ℕ, zero, suc, ◌-◌, ◌/◌, ◌%◌, leb, ℤ, pos, negsuc, length, drop}
+use Rattle.std.specs.Prelude.{cond, List, [], ◌∷◌, ◌++◌, map, ℕ, zero, suc, ◌-◌, ◌/◌, ◌%◌, leb, ℤ, pos, negsuc, length, drop, Ok, Err}
 use Rattle.rules.specs.declared.Board.{Board}
 use Rattle.rules.specs.declared.Refusal.TheVariants.{Buffer}
-use Rattle.rules.specs.declared.Saved.{Saved}
+use Rattle.rules.specs.Answers.{Saved}
 
 -- a number in so many bytes, high byte first
 unfoldable pub number_bytes : ℕ → ℕ → List ℕ
@@ -49,7 +49,7 @@ image_length = 49
 
 -- spec 9.4: a short buffer is refused
 unfoldable pub save_check : List ℕ → Saved
-save_check buffer = cond (leb image_length (length buffer)) Saved.Written (Saved.Refused Buffer)
+save_check buffer = cond (leb image_length (length buffer)) (Ok tt) (Err Buffer)
 
 -- spec 9.3, 9.4: the buffer after the saving
 unfoldable pub saved_into : Board → List ℕ → List ℕ

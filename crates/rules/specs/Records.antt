@@ -1,6 +1,6 @@
 -- Spec 4.3, 5 to 7: the board record, how a lent one is read, and what a step makes of it.
 -- Assumes nothing.
-use Rattle.std.specs.Prelude.{Bool, cond, List, [], ◌∷◌, ℕ, min, eqb, pos, get_or, replicate}
+use Rattle.std.specs.Prelude.{Bool, cond, List, [], ◌∷◌, ℕ, min, eqb, pos, get_or, replicate, Ok, Err}
 use Rattle.rules.specs.Tests.{any}
 use Rattle.rules.specs.Settings.{settings_check}
 use Rattle.rules.specs.Samples.{Slice, Equipment, frequency, permitted, sample_check}
@@ -12,9 +12,7 @@ use Rattle.rules.specs.Reports.{Items, report_of}
 use Rattle.rules.specs.declared.Settings.{Settings}
 use Rattle.rules.specs.declared.Board.{Board}
 use Rattle.rules.specs.declared.Refusal.{Refusal}
-use Rattle.rules.specs.declared.SettingsCheck.{SettingsCheck}
-use Rattle.rules.specs.declared.SampleCheck.{SampleCheck}
-use Rattle.rules.specs.declared.Answer.{Answer}
+use Rattle.rules.specs.Answers.{SettingsCheck, SampleCheck}
 use Rattle.rules.specs.declared.Stepped.{Stepped}
 
 -- spec 5.3: a fresh board
@@ -93,16 +91,16 @@ shown e st b =
 
 -- spec 11.3, 11.4: a refusal gives no report and changes nothing
 abbrev pub turned_away : Board → Refusal → Stepped
-turned_away b cause = record { board = b; answer = Answer.Refused cause }
+turned_away b cause = record { board = b; answer = Err cause }
 
 abbrev pub on_sample : Equipment → Settings → Slice → Board → SampleCheck → Stepped
-on_sample e st x b (SampleCheck.Refused cause) = turned_away b cause
-on_sample e st x b SampleCheck.Accepted =
-    record { board = next e st x b; answer = Answer.Reported (report_of (shown e st (next e st x b))) }
+on_sample e st x b (Err cause) = turned_away b cause
+on_sample e st x b (Ok ok) =
+    record { board = next e st x b; answer = Ok (report_of (shown e st (next e st x b))) }
 
 abbrev pub on_settings : Equipment → Settings → Slice → Board → SettingsCheck → Stepped
-on_settings e st x b (SettingsCheck.Refused cause line) = turned_away b cause
-on_settings e st x b SettingsCheck.Accepted = on_sample e st x b (sample_check x)
+on_settings e st x b (Err away) = turned_away b away.cause
+on_settings e st x b (Ok ok) = on_sample e st x b (sample_check x)
 
 -- spec 4.3: the settings first, then the sample
 unfoldable pub step_of : Equipment → Board → Settings → Slice → Stepped

@@ -1,13 +1,13 @@
 -- Spec 2.5, 2.6, 4.1, 4.2: the seven numbers of a slice, refusals 8, 4, 5, 6 and 7 in
 -- their order, and the three voltages.
 -- Assumes nothing.
-use Rattle.std.specs.Prelude.{Bool, true, false, List, [], ◌∷◌, ℕ, ◌+◌, ◌/◌, min, max, leb, eqb, length, get_or}
+use Rattle.std.specs.Prelude.{Bool, true, false, List, [], ◌∷◌, ℕ, ◌+◌, ◌/◌, min, max, leb, eqb, length, get_or, Ok, Err}
 use Rattle.rules.specs.Tests.{all, within}
 use Rattle.rules.specs.Sensing.{last_code}
 use Rattle.rules.specs.declared.Region.{Region}
 use Rattle.rules.specs.declared.Refusal.{Refusal}
 use Rattle.rules.specs.declared.Refusal.TheVariants.{Code, Frequency, Permission, Power, Sample}
-use Rattle.rules.specs.declared.SampleCheck.{SampleCheck}
+use Rattle.rules.specs.Answers.{SampleCheck}
 
 -- spec 4.1: a sample as it is lent
 abbrev pub Slice : Type 0
@@ -36,7 +36,7 @@ permitted x = eqb (permission x) 1
 -- spec 4.2: the first cause found
 abbrev pub unless : Bool → Refusal → SampleCheck → SampleCheck
 unless true cause next = next
-unless false cause next = SampleCheck.Refused cause
+unless false cause next = Err cause
 
 unfoldable pub sample_check : Slice → SampleCheck
 sample_check x =
@@ -45,11 +45,11 @@ sample_check x =
     (unless (within 40000 80000 (frequency x)) Frequency
     (unless (leb (permission x) 1) Permission
     (unless (all (leb (available x) 10000 ∷ leb (operator_limit x) 10000 ∷ [])) Power
-    SampleCheck.Accepted))))
+    (Ok tt)))))
 
 abbrev pub sample_passed : SampleCheck → Bool
-sample_passed SampleCheck.Accepted = true
-sample_passed (SampleCheck.Refused cause) = false
+sample_passed (Ok ok) = true
+sample_passed (Err cause) = false
 
 abbrev pub sample_accepted : Slice → Bool
 sample_accepted x = sample_passed (sample_check x)

@@ -1,8 +1,8 @@
 -- Spec 2.1, 2.2, 2.4: a mean-square code and its voltage.
 -- Assumes nothing.
-use Rattle.std.specs.Prelude.{Bool, cond, ℕ, zero, suc, ◌*◌, leb}
+use Rattle.std.specs.Prelude.{Bool, cond, ℕ, zero, suc, ◌*◌, leb, Ok, Err}
 use Rattle.rules.specs.declared.Refusal.TheVariants.{Code}
-use Rattle.rules.specs.declared.Sensed.{Sensed}
+use Rattle.rules.specs.Answers.{Sensed}
 
 -- the largest whole number up to `bound` that passes the test, 0 where none does
 unfoldable pub largest : (ℕ → Bool) → ℕ → ℕ
@@ -20,7 +20,7 @@ voltage code = largest (λ v. leb (v * v) (code * 100000)) 20236
 
 -- spec 2.4: what a code gives by a table, the voltage of each code; a code above the table is refused
 unfoldable pub sensed_by : (ℕ → ℕ) → ℕ → Sensed
-sensed_by volts code = cond (leb code last_code) (Sensed.Volts (volts code)) (Sensed.Refused Code)
+sensed_by volts code = cond (leb code last_code) (Ok (volts code)) (Err Code)
 
 -- by ours
 abbrev pub sensed : ℕ → Sensed

@@ -1,6 +1,6 @@
 -- Spec 3.5, 3.6, 4.3: the allowed values, and refusals 2 and 3 of settings in sheet order.
 -- Assumes nothing.
-use Rattle.std.specs.Prelude.{Bool, true, false, cond, ◌&&◌, List, [], ◌∷◌, map, ℕ, suc, ℤ, pos, neg_ℤ, get_or}
+use Rattle.std.specs.Prelude.{Bool, true, false, cond, ◌&&◌, List, [], ◌∷◌, map, ℕ, suc, ℤ, pos, neg_ℤ, get_or, Ok, Err}
 use Rattle.std.specs.Int.Signed.{lt_z, le_z}
 use Rattle.rules.specs.Tests.{all}
 use Rattle.rules.specs.declared.Limit.{Limit}
@@ -9,7 +9,7 @@ use Rattle.rules.specs.declared.Point.{Point}
 use Rattle.rules.specs.declared.Settings.{Settings}
 use Rattle.rules.specs.declared.Refusal.{Refusal}
 use Rattle.rules.specs.declared.Refusal.TheVariants.{Range, Rise}
-use Rattle.rules.specs.declared.SettingsCheck.{SettingsCheck}
+use Rattle.rules.specs.Answers.{SettingsCheck, settings_refused}
 
 -- two numbers of a sheet line (spec 3.2): a var line has four pairs, a watt line two, any other line one
 pub record Pair : Type 0 where
@@ -72,9 +72,9 @@ line_check r ps next refuse = cond (all (map (in_row r) ps)) (cond (rising ps) n
 
 -- the lines from line n on, in order, each by its row
 unfoldable pub check_from : ℕ → List Row → List (List Pair) → SettingsCheck
-check_from n [] lines = SettingsCheck.Accepted
-check_from n (r ∷ rs) [] = SettingsCheck.Accepted
-check_from n (r ∷ rs) (ps ∷ lines) = line_check r ps (check_from (suc n) rs lines) (λ cause. SettingsCheck.Refused cause n)
+check_from n [] lines = Ok tt
+check_from n (r ∷ rs) [] = Ok tt
+check_from n (r ∷ rs) (ps ∷ lines) = line_check r ps (check_from (suc n) rs lines) (λ cause. settings_refused cause n)
 
 -- ---- the thirteen lines of settings (eight limits, four and two points: the lengths are those of the declared arrays)
 
@@ -116,8 +116,8 @@ unfoldable pub settings_check : Settings → SettingsCheck
 settings_check st = check_from 1 rows (lines_of st)
 
 abbrev pub settings_passed : SettingsCheck → Bool
-settings_passed SettingsCheck.Accepted = true
-settings_passed (SettingsCheck.Refused cause line) = false
+settings_passed (Ok ok) = true
+settings_passed (Err away) = false
 
 -- an accepted sheet
 abbrev pub settings_accepted : Settings → Bool

@@ -1,6 +1,6 @@
 -- Spec 3.7 to 3.10: reading a sheet.
 -- Assumes nothing.
-use Rattle.std.specs.Prelude.{cond, List, [], ◌∷◌, ◌++◌, map, ℕ, suc, ◌+◌, ℤ, pos, nat_abs, length, get_or, drop}
+use Rattle.std.specs.Prelude.{cond, List, [], ◌∷◌, ◌++◌, map, ℕ, suc, ◌+◌, ℤ, pos, nat_abs, length, get_or, drop, Ok, Err}
 use Rattle.std.proofs.Math.Option.{Option, none, some}
 use Rattle.rules.specs.Settings.{Pair, pair, Row, rows, line_check}
 use Rattle.rules.specs.Text.{first_line, has_feed, after_line}
@@ -11,7 +11,7 @@ use Rattle.rules.specs.declared.Point.{Point}
 use Rattle.rules.specs.declared.Settings.{Settings}
 use Rattle.rules.specs.declared.Refusal.{Refusal}
 use Rattle.rules.specs.declared.Refusal.TheVariants.{Form}
-use Rattle.rules.specs.declared.SettingsCheck.{SettingsCheck}
+use Rattle.rules.specs.Answers.{SettingsCheck, settings_refused}
 
 -- the numbers of a line, two by two
 abbrev pub pairs : List ℤ → List Pair
@@ -55,7 +55,7 @@ pub record SheetReading : Type 0 where
   pub start : ℕ
 
 abbrev pub refused_at : Refusal → ℕ → ℕ → SheetReading
-refused_at cause line start = record { check = SettingsCheck.Refused cause line; settings = settings_of []; start = start }
+refused_at cause line start = record { check = settings_refused cause line; settings = settings_of []; start = start }
 
 -- spec 3.7: a line of another form is refused with 1; one that has its form is checked for 2 and 3, and where it has neither, the lines after it
 abbrev pub on_numbers : ℕ → ℕ → Row → Option (List ℤ) → (List Pair → SheetReading) → SheetReading
@@ -64,7 +64,7 @@ on_numbers line start r (some ns) next = line_check r (pairs ns) (next (pairs ns
 
 -- the lines of these rows and forms, from line n, which begins at `start`, on; `read` are the lines before it
 unfoldable pub read_from : ℕ → ℕ → List (List Pair) → List Row → List (List ℕ) → List ℕ → SheetReading
-read_from n start read [] forms s = record { check = SettingsCheck.Accepted; settings = settings_of read; start = start }
+read_from n start read [] forms s = record { check = Ok tt; settings = settings_of read; start = start }
 read_from n start read (r ∷ rs) [] s = refused_at Form n start
 read_from n start read (r ∷ rs) (form ∷ forms) s =
     cond (has_feed s)
@@ -78,8 +78,8 @@ read_sheet s = read_from 1 0 [] rows sheet_forms s
 
 -- spec 3.9: the part of the caller's bytes that is handed back
 abbrev pub part_of : SettingsCheck → List ℕ → List ℕ
-part_of SettingsCheck.Accepted rest = rest
-part_of (SettingsCheck.Refused cause line) rest = first_line rest
+part_of (Ok ok) rest = rest
+part_of (Err away) rest = first_line rest
 
 unfoldable pub handed_back : List ℕ → List ℕ
 handed_back s = part_of (read_sheet s).check (drop (read_sheet s).start s)

@@ -1,6 +1,6 @@
 -- Spec 10.3 to 10.9: what `board` writes for a whole input.
 -- Assumes nothing.
-use Rattle.std.specs.Prelude.{cond, List, [], ◌∷◌, ◌++◌, map, ℕ, zero, suc, ◌+◌, ◌/◌, ◌%◌, eqb, ℤ, pos, nat_abs, take, drop, get_or}
+use Rattle.std.specs.Prelude.{cond, List, [], ◌∷◌, ◌++◌, map, ℕ, zero, suc, ◌+◌, ◌/◌, ◌%◌, eqb, ℤ, pos, nat_abs, take, drop, get_or, Ok, Err}
 use Rattle.std.proofs.Math.Option.{Option, none, some}
 use Prim.Native.String.{String}
 use Rattle.rules.specs.Refusals.{refusal_number}
@@ -15,8 +15,7 @@ use Rattle.rules.specs.declared.Settings.{Settings}
 use Rattle.rules.specs.declared.Board.{Board}
 use Rattle.rules.specs.declared.Report.{Report}
 use Rattle.rules.specs.declared.Refusal.TheVariants.{Sample}
-use Rattle.rules.specs.declared.SettingsCheck.{SettingsCheck}
-use Rattle.rules.specs.declared.Answer.{Answer}
+use Rattle.rules.specs.Answers.{SettingsCheck, Answer}
 use Rattle.rules.specs.declared.Stepped.{Stepped}
 
 -- ---- the lines that are written
@@ -53,8 +52,8 @@ unfoldable pub refused_line : ℕ → ℕ → List ℕ
 refused_line number line = bytes "(refused" ++ (spaced_numbers (pos number ∷ pos line ∷ []) ++ bytes ")\n")
 
 abbrev pub answer_line : ℕ → Answer → List ℕ
-answer_line line (Answer.Reported r) = report_line r
-answer_line line (Answer.Refused cause) = refused_line (refusal_number cause) line
+answer_line line (Ok r) = report_line r
+answer_line line (Err cause) = refused_line (refusal_number cause) line
 
 -- spec 10.14: room for one line that is written, whichever
 abbrev pub line_room : ℕ
@@ -84,12 +83,12 @@ lines_in s = lines_after [] s
 
 -- a line of another form, or unended, is refused with 8 (spec 11.1); a line of its form is a step
 abbrev pub on_sample_numbers : Equipment → Settings → Board → Option (List ℤ) → Stepped
-on_sample_numbers e st b none = record { board = b; answer = Answer.Refused Sample }
+on_sample_numbers e st b none = record { board = b; answer = Err Sample }
 on_sample_numbers e st b (some ns) = step_of e b st (map nat_abs ns)
 
 unfoldable pub line_step : Equipment → Settings → Board → Line → Stepped
 line_step e st b (ended s) = on_sample_numbers e st b (numbers_of sample_form s)
-line_step e st b (unended s) = record { board = b; answer = Answer.Refused Sample }
+line_step e st b (unended s) = record { board = b; answer = Err Sample }
 
 -- spec 10.3, 10.5, 10.7: a line written for each line read; every line, good or bad, counts in the line number; a refusal is no step
 unfoldable pub answers_from : Equipment → Settings → Board → ℕ → List Line → List ℕ
@@ -112,8 +111,8 @@ Telling = Settings → List Line → List ℕ
 
 -- spec 10.6: a refused sheet ends all
 abbrev pub on_sheet_by : Telling → SheetReading → SettingsCheck → List ℕ → List ℕ
-on_sheet_by tells r (SettingsCheck.Refused cause line) s = refused_line (refusal_number cause) line
-on_sheet_by tells r SettingsCheck.Accepted s = tells r.settings (lines_in (drop r.start s))
+on_sheet_by tells r (Err away) s = refused_line (refusal_number away.cause) away.line
+on_sheet_by tells r (Ok ok) s = tells r.settings (lines_in (drop r.start s))
 
 unfoldable pub transcript_of_by : Telling → List ℕ → List ℕ
 transcript_of_by tells s = on_sheet_by tells (read_sheet s) (read_sheet s).check s

@@ -87,8 +87,8 @@ pub struct Report {
     pub side: u8,
 }
 
-// The operating regions of ride-through (spec 6.7).
-#[derive(Clone, Copy)]
+// The operating regions of ride-through (spec 6.7), from the best to the worst.
+#[derive(Clone, Copy, Debug, PartialEq, Eq, PartialOrd, Ord)]
 pub enum Region {
     Continuous,
     Mandatory,
@@ -96,71 +96,57 @@ pub enum Region {
     Cease,
 }
 
-// The causes for which input is turned away; `refusal_number` of specs/ gives each its number.
-#[derive(Clone, Copy)]
+// The causes for which input is turned away, each with its number (spec 11.1).
+#[derive(Clone, Copy, Debug, PartialEq, Eq)]
 pub enum Refusal {
-    Form,
-    Range,
-    Rise,
-    Code,
-    Frequency,
-    Permission,
-    Power,
-    Sample,
-    Buffer,
+    Form = 1,
+    Range = 2,
+    Rise = 3,
+    Code = 4,
+    Frequency = 5,
+    Permission = 6,
+    Power = 7,
+    Sample = 8,
+    Buffer = 9,
 }
 
 // The number of a cause.
 pub fn refusal_number(cause: Refusal) -> u8
     ensures { result ≡ refusal_number cause }
 {
-    match cause {
-        Refusal::Form => 1,
-        Refusal::Range => 2,
-        Refusal::Rise => 3,
-        Refusal::Code => 4,
-        Refusal::Frequency => 5,
-        Refusal::Permission => 6,
-        Refusal::Power => 7,
-        Refusal::Sample => 8,
-        Refusal::Buffer => 9,
+    cause as u8
+}
+
+// The same in 32 bits, as the calls of the C boundary answer it.
+impl From<Refusal> for u32 {
+    ghost from_gives = { λ cause n. n ≡ refusal_number cause };
+
+    fn from(cause: Refusal) -> u32 {
+        cause as u32
     }
 }
 
-// What checking settings finds: nothing, or the first cause and its sheet line, counted from 1.
-#[derive(Clone, Copy)]
-pub enum SettingsCheck {
-    Accepted,
-    Refused(Refusal, u8),
+// Why settings are refused: the first cause, and its sheet line, counted from 1.
+#[derive(Clone, Copy, Debug, PartialEq, Eq)]
+pub struct SheetRefusal {
+    pub cause: Refusal,
+    pub line: u8,
 }
+
+// What checking settings finds.
+pub type SettingsCheck = Result<(), SheetRefusal>;
 
 // What checking a sample finds.
-#[derive(Clone, Copy)]
-pub enum SampleCheck {
-    Accepted,
-    Refused(Refusal),
-}
+pub type SampleCheck = Result<(), Refusal>;
 
-// What a mean-square code gives.
-#[derive(Clone, Copy)]
-pub enum Sensed {
-    Volts(u16),
-    Refused(Refusal),
-}
+// The voltage that a mean-square code gives.
+pub type Sensed = Result<u16, Refusal>;
 
 // What a step answers.
-#[derive(Clone, Copy)]
-pub enum Answer {
-    Reported(Report),
-    Refused(Refusal),
-}
+pub type Answer = Result<Report, Refusal>;
 
 // What saving an image answers.
-#[derive(Clone, Copy)]
-pub enum Saved {
-    Written,
-    Refused(Refusal),
-}
+pub type Saved = Result<(), Refusal>;
 
 // A step's answer, with the record beside it.
 #[derive(Clone, Copy)]

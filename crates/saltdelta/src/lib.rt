@@ -15,10 +15,10 @@ ghost use Rattle.stepcalls.specs.ExplainedCalls.{explained_fresh, explained_afte
 ghost use Rattle.sheetcalls.specs.SheetAnswers.{sheet_answer, settings_after};
 ghost use Rattle.calls.specs.ReplayAnswers.{replay_answer, replay_report};
 
-use calls::{ReplayAnswer, back_call, forward_call, replay_call, save_number};
+use calls::{ReplayAnswer, back_call, forward_call, save_number};
 use rules::{Board, Report, Settings};
-use sheetcalls::{SheetAnswer, sheet_call};
-use stepcalls::{Explained, explained_call, fresh_explained, step_call};
+use sheetcalls::{SheetAnswer, answer_of};
+use stepcalls::{Explained, fresh_explained, in_numbers};
 
 // A fresh board record.
 pub fn saltdelta_fresh() -> Board
@@ -45,12 +45,11 @@ pub fn saltdelta_fresh_explained() -> Explained
 pub fn saltdelta_read_sheet(settings: &mut Settings, bytes: &[u8]) -> SheetAnswer
     ensures { (settings.new ≡ settings_after settings.old bytes.now) × (result ≡ sheet_answer bytes.now) }
 {
-    let next = sheet_call(bytes);
-    if next.answer.number != 0 {
-        return next.answer;
+    let outcome = sheet::read(bytes);
+    if outcome.check.is_ok() {
+        *settings = outcome.settings;
     }
-    *settings = next.settings;
-    next.answer
+    answer_of(bytes, outcome)
 }
 
 // A step of the lent record, and its report; a refused one leaves both as they were.
@@ -63,13 +62,15 @@ pub fn saltdelta_step(
     ensures { (board.new ≡ record_after board.old settings.now sample.now) × (report.new
         ≡ report_after report.old board.old settings.now sample.now) × (result ≡ step_number board.old settings.now sample.now) }
 {
-    let next = step_call(*board, *settings, sample);
-    if next.number != 0 {
-        return next.number;
+    let next = service::step::step(*board, *settings, sample);
+    match next.answer {
+        Ok(given) => {
+            *board = next.board;
+            *report = given;
+            0
+        }
+        Err(cause) => u32::from(cause),
     }
-    *board = next.board;
-    *report = next.report;
-    0
 }
 
 // The same step, with its report and the rules that held it; a refused one leaves both lent structs as they were.
@@ -82,13 +83,15 @@ pub fn saltdelta_step_explained(
     ensures { (board.new ≡ record_after board.old settings.now sample.now) × (explained.new
         ≡ explained_after explained.old board.old settings.now sample.now) × (result ≡ step_number board.old settings.now sample.now) }
 {
-    let next = explained_call(*board, *settings, sample);
-    if next.number != 0 {
-        return next.number;
+    let next = explain::step::step(*board, *settings, sample);
+    match next.answer {
+        Ok(given) => {
+            *board = next.board;
+            *explained = in_numbers(given.report, given.status, given.watts);
+            0
+        }
+        Err(cause) => u32::from(cause),
     }
-    *board = next.board;
-    *explained = next.explained;
-    0
 }
 
 // The lent record's image at the front of a lent buffer; a buffer under 49 bytes keeps every byte.
@@ -126,10 +129,12 @@ pub fn saltdelta_replay(
         × (buffer.new ≡ replayed_into settings.now samples.now buffer.old)
         × (result ≡ replay_answer settings.now samples.now buffer.old) }
 {
-    let next = replay_call(*settings, samples, buffer);
-    if next.answer.number != 0 {
-        return next.answer;
+    let done = replay::replay(*settings, samples, buffer);
+    if done.number == 0 {
+        *report = done.report;
     }
-    *report = next.report;
-    next.answer
+    ReplayAnswer {
+        number: done.number,
+        accepted: done.accepted,
+    }
 }

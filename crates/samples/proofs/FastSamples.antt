@@ -15,7 +15,8 @@ use lib.Seq.{take_all, take_at, take-suc-set}
 use Rattle.rules.specs.Text.{feed}
 use Rattle.rules.specs.Forms.{number_mark, sample_form}
 use Rattle.formats.specs.Marks.{is_mark}
-use Rattle.matching.specs.Forms.{Formed, after, take_form}
+use Rattle.std.specs.Prelude.{Some}
+use Rattle.matching.specs.Forms.{after, take_form}
 use Rattle.matching.specs.Places.{padded, Matched}
 use Rattle.matching.specs.declared.Match.{Match}
 use Rattle.matching.proofs.Matching.{after-none-before, after-after}
@@ -115,12 +116,10 @@ module _ (s : List ℕ) (start : ℕ) (slice : List ℕ) (k at : ℕ) (g : SoFar
       g.left ∙ rw (seven, from_end, take_all 7 slice (omega (arith, g.size)), append-nil)
 
   -- a line feed there ends the line
-  pub fast-ends : start + 64 ≤ length s → get_or s at 0 ≡ feed → record { found = true; next = at + 1; slice = slice } ≡ sample_at s start
+  pub fast-ends : start + 64 ≤ length s → get_or s at 0 ≡ feed → Some (record { next = at + 1; slice = slice }) ≡ sample_at s start
   fast-ends room b =
-      let f : Formed = record { numbers = numbers; rest = drop at s } in
-      let m : Match = record { found = true; next = at; n = padded numbers } in
+      let m : Match = record { next = at; n = padded numbers } in
       let inside : at < length s = omega (arith, g.bound, g.count) in
-      let matched : Matched f s m = record { found = refl; numbers = refl; rest = refl; inside = omega arith } in
+      let matched : Matched (take_form sample_form (drop start s)) s m = record { numbers = numbers; same = all-taken; stored = refl; inside = omega arith } in
       let seven : take 7 (padded numbers) ≡ numbers = take_at numbers (replicate (8 - length numbers) (pos 0)) 7 (length-map slice pos ∙ g.size) in
-      sample-found s start m (omega arith) slice (at-feed s start m (omega arith) (some f) all-taken matched refl inside b)
-      (rw (seven, map-map nat_abs pos slice, map-id slice))
+      sample-found s start m slice (at-feed s start m (omega arith) matched inside b) (rw (seven, map-map nat_abs pos slice, map-id slice))

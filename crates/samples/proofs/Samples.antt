@@ -1,7 +1,7 @@
 -- A sample line's seven numbers, of an ended line that stands at a place of a text.
 -- Assumes nothing.
-use mathlib.Core.Path.{◌≡◌, refl, sym, ap, ◌∙◌}
-use mathlib.Core.Bool.{Bool, true, false, cond, false≢true}
+use mathlib.Core.Path.{◌≡◌, refl, ap, ◌∙◌}
+use mathlib.Core.Bool.{Bool, true, false, cond}
 use mathlib.Core.List.{List, [], ◌∷◌, map}
 use mathlib.Core.Option.{Option, none, some}
 use Prim.Native.Nat.{ℕ, suc, ◌+◌, ◌-◌, ◌≤◌, ◌<◌}
@@ -14,12 +14,13 @@ use Rattle.rules.specs.Text.{feed, first_line, has_feed}
 use Rattle.rules.specs.Forms.{sample_form, numbers_of}
 use Rattle.formats.specs.Marks.{marks}
 use Rattle.formats.proofs.Forms.{line-written, suits-length}
-use Rattle.matching.specs.Forms.{Formed, take_form}
-use Rattle.matching.specs.Places.{padded, MatchAt}
+use Rattle.matching.specs.Forms.{take_form}
+use Rattle.std.specs.Prelude.{Some, None}
+use Rattle.matching.specs.Places.{padded, Matched}
 use Rattle.samples.specs.Lines.{ended_sample, sample_at}
 use Rattle.matching.specs.declared.Match.{Match}
 use Rattle.text.proofs.Whole.{whole, numbers-whole}
-use Rattle.matching.proofs.Ended.{line_form, form-line, form-plain, rest-feed, rest-length}
+use Rattle.matching.proofs.Ended.{Plain, line_form, form-line, form-plain, rest-feed, rest-length}
 
 -- ---- seven numbers
 
@@ -49,51 +50,48 @@ pub record EndedAt (s : List ℕ) (at : ℕ) (m : Match) : Type 0 where
   pub stored : m.n ≡ padded numbers
   pub place : m.next ≡ at + length (first_line (drop at s))
 
-module _ (s : List ℕ) (at : ℕ) (m : Match) (inside : at ≤ length s) where
-  pub at-feed : (o : Option Formed) → take_form sample_form (drop at s) ≡ o → MatchAt o s m → m.found ≡ true → m.next < length s
-      → get_or s m.next 0 ≡ feed → EndedAt s at m
+-- the form finds nothing
+pub at-nothing : (s : List ℕ) (at : ℕ) → take_form sample_form (drop at s) ≡ none → ended_sample (drop at s) ≡ none
+at-nothing s at q = not-ended (has_feed (drop at s)) _ (line-numbers (drop at s) ∙ rw q)
+
+module _ (s : List ℕ) (at : ℕ) (m : Match) (inside : at ≤ length s) (e : Matched (take_form sample_form (drop at s)) s m) where
+  plain : Plain (drop at s) (drop m.next s)
+  plain = form-plain sample_form (drop at s) (record { numbers = e.numbers; rest = drop m.next s }) sample-plain e.same
+
+  pub at-feed : m.next < length s → get_or s m.next 0 ≡ feed → EndedAt s at m
   unfolding first_line has_feed
-  at-feed none q e f h b = absurd (false≢true (sym (ap (λ (r : Match). r.found) e) ∙ f))
-  at-feed (some f) q e g h b =
-      let rest : f.rest ≡ get_or s m.next 0 ∷ drop (suc m.next) s = e.rest ∙ drop-cons s m.next 0 h in
-      let empty : first_line f.rest ≡ [] = rw (rest, eq-eqb _ feed b) in
-      let plain = form-plain sample_form (drop at s) f sample-plain q in
+  at-feed h b =
+      let rest : drop m.next s ≡ get_or s m.next 0 ∷ drop (suc m.next) s = drop-cons s m.next 0 h in
+      let empty : first_line (drop m.next s) ≡ [] = rw (rest, eq-eqb _ feed b) in
       let size = rest-length plain in
       record {
-        numbers = f.numbers;
-        line = line-numbers (drop at s) ∙ rw (q, empty);
+        numbers = e.numbers;
+        line = line-numbers (drop at s) ∙ rw (e.same, empty);
         ended = rest-feed plain ∙ rw (rest, eq-eqb _ feed b);
-        stored = e.numbers;
-        place = omega (arith, size, ap length empty, ap length e.rest, length-drop at s, length-drop m.next s);
+        stored = e.stored;
+        place = omega (arith, size, ap length empty, length-drop at s, length-drop m.next s);
       }
 
-  pub at-nothing : (o : Option Formed) → take_form sample_form (drop at s) ≡ o → MatchAt o s m → m.found ≡ false → ended_sample (drop at s) ≡ none
-  at-nothing none q e f = not-ended (has_feed (drop at s)) _ (line-numbers (drop at s) ∙ rw q)
-  at-nothing (some g) q e f = absurd (false≢true (sym f ∙ e.found))
-
-  pub at-past : (o : Option Formed) → take_form sample_form (drop at s) ≡ o → MatchAt o s m → m.found ≡ true → length s ≤ m.next → ended_sample (drop at s) ≡ none
+  pub at-past : length s ≤ m.next → ended_sample (drop at s) ≡ none
   unfolding has_feed
-  at-past none q e f h = absurd (false≢true (sym (ap (λ (r : Match). r.found) e) ∙ f))
-  at-past (some f) q e g h =
-      let over : f.rest ≡ [] = e.rest ∙ drop_of_length-le s h in
-      let none_left : has_feed (drop at s) ≡ false = rest-feed (form-plain sample_form (drop at s) f sample-plain q) ∙ rw over in
+  at-past h =
+      let over : drop m.next s ≡ [] = drop_of_length-le s h in
+      let none_left : has_feed (drop at s) ≡ false = rest-feed plain ∙ rw over in
       rw none_left
 
-  pub at_other : (o : Option Formed) → take_form sample_form (drop at s) ≡ o → MatchAt o s m → m.found ≡ true → m.next < length s
-      → (get_or s m.next 0 ≡ feed → ⊥) → ended_sample (drop at s) ≡ none
+  pub at_other : m.next < length s → (get_or s m.next 0 ≡ feed → ⊥) → ended_sample (drop at s) ≡ none
   unfolding first_line
-  at_other none q e f h b = absurd (false≢true (sym (ap (λ (r : Match). r.found) e) ∙ f))
-  at_other (some f) q e g h b =
-      let rest : f.rest ≡ get_or s m.next 0 ∷ drop (suc m.next) s = e.rest ∙ drop-cons s m.next 0 h in
-      not-ended (has_feed (drop at s)) _ (line-numbers (drop at s) ∙ rw (q, rest, ne_eqb _ feed b))
+  at_other h b =
+      let rest : drop m.next s ≡ get_or s m.next 0 ∷ drop (suc m.next) s = drop-cons s m.next 0 h in
+      not-ended (has_feed (drop at s)) _ (line-numbers (drop at s) ∙ rw (e.same, rest, ne_eqb _ feed b))
 
-  -- what the contract says, where there is a line and where there is none
-  pub sample-found : (slice : List ℕ) → EndedAt s at m → slice ≡ map nat_abs (take 7 m.n)
-      → record { found = true; next = m.next + 1; slice = slice } ≡ sample_at s at
-  unfolding sample_at
-  sample-found slice e q =
-      rw (e.ended, e.line, ← e.place, q, e.stored, sample-seven (first_line (drop at s)) e.numbers e.line)
+-- what the contract says, where there is a line and where there is none
+pub sample-found : (s : List ℕ) (at : ℕ) (m : Match) (slice : List ℕ) → EndedAt s at m → slice ≡ map nat_abs (take 7 m.n)
+    → Some (record { next = m.next + 1; slice = slice }) ≡ sample_at s at
+unfolding sample_at
+sample-found s at m slice e q =
+    rw (e.ended, e.line, ← e.place, q, e.stored, sample-seven (first_line (drop at s)) e.numbers e.line)
 
-  pub sample-none : ended_sample (drop at s) ≡ none → record { found = false; next = at; slice = replicate 7 0 } ≡ sample_at s at
-  unfolding sample_at
-  sample-none e = rw e
+pub sample-none : (s : List ℕ) (at : ℕ) → ended_sample (drop at s) ≡ none → None ≡ sample_at s at
+unfolding sample_at
+sample-none s at e = rw e

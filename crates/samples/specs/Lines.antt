@@ -1,6 +1,7 @@
 -- Spec 10.2: the numbers of a sample line that stands at a place of a text.
 -- Assumes nothing.
-use Rattle.std.specs.Prelude.{true, false, cond, List, map, ℕ, ◌+◌, ℤ, nat_abs, length, drop, replicate}
+use Rattle.std.specs.Prelude.{cond, List, map, ℕ, ◌+◌, ℤ, nat_abs, length, drop, Some, None}
+use Rattle.std.specs.declared.option.Option.{Option as RustOption}
 use Rattle.std.proofs.Math.Option.{Option, none, some}
 use Rattle.rules.specs.Text.{first_line, has_feed}
 use Rattle.rules.specs.Forms.{sample_form, numbers_of}
@@ -10,11 +11,11 @@ use Rattle.samples.specs.declared.SampleAt.{SampleAt}
 abbrev pub ended_sample : List ℕ → Option (List ℤ)
 ended_sample s = cond (has_feed s) (numbers_of sample_form (first_line s)) none
 
--- what is read, and the place after the line feed; the place it began at where nothing is
-abbrev pub read_then : Option (List ℤ) → ℕ → ℕ → SampleAt
-read_then none at next = record { found = false; next = at; slice = replicate 7 0 }
-read_then (some ns) at next = record { found = true; next = next; slice = map nat_abs ns }
+-- what is read, and the place after the line feed
+abbrev pub read_then : Option (List ℤ) → ℕ → RustOption SampleAt
+read_then none next = None
+read_then (some ns) next = Some (record { next = next; slice = map nat_abs ns })
 
 -- the sample line at a place of a text
-unfoldable pub sample_at : List ℕ → ℕ → SampleAt
-sample_at s at = read_then (ended_sample (drop at s)) at (at + length (first_line (drop at s)) + 1)
+unfoldable pub sample_at : List ℕ → ℕ → RustOption SampleAt
+sample_at s at = read_then (ended_sample (drop at s)) (at + length (first_line (drop at s)) + 1)

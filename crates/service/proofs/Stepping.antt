@@ -1,5 +1,6 @@
 -- The parts of a step, put together: what `settle` and `advance` make is what the rules make of a record.
 -- Assumes nothing.
+use Rattle.std.specs.Prelude.{Ok, Err}
 use mathlib.Core.Path.{◌≡◌, refl, sym, ap, ap₂, subst, ◌∙◌}
 use mathlib.Core.Bool.{Bool, true, false, cond, false≢true}
 use mathlib.Core.List.{List, [], ◌∷◌, ◌++◌}
@@ -20,8 +21,7 @@ use Rattle.rules.specs.declared.Settings.{Settings}
 use Rattle.rules.specs.declared.Board.{Board}
 use Rattle.rules.specs.declared.Region.{Region}
 use Rattle.rules.specs.declared.Refusal.{Refusal}
-use Rattle.rules.specs.declared.SettingsCheck.{SettingsCheck}
-use Rattle.rules.specs.declared.SampleCheck.{SampleCheck}
+use Rattle.rules.specs.Answers.{SettingsCheck, settings_refused}
 use Rattle.laws.proofs.Statuses.{kept-service}
 use Rattle.laws.proofs.SameRules.{SameRules, counted_same, full-same}
 use Rattle.readings.specs.declared.reading.Reading.{Reading}
@@ -152,17 +152,17 @@ module _ (e : Equipment) (s : Settings) (x : Slice) (r : Reading) (regions : e.r
 -- ---- refused calls
 
 module _ (e : Equipment) (s : Settings) (x : Slice) (b : Board) where
-  good-settings : settings_accepted s ≡ true → settings_check s ≡ SettingsCheck.Accepted
+  good-settings : settings_accepted s ≡ true → settings_check s ≡ Ok tt
   good-settings ok = by (settings_check s) refl ok
     where
-      by : (k : SettingsCheck) → settings_check s ≡ k → settings_passed k ≡ true → settings_check s ≡ SettingsCheck.Accepted
-      by SettingsCheck.Accepted k p = k
-      by (SettingsCheck.Refused cause line) k p = absurd (false≢true p)
+      by : (k : SettingsCheck) → settings_check s ≡ k → settings_passed k ≡ true → settings_check s ≡ Ok tt
+      by (Ok ok) k p = k
+      by (Err away) k p = absurd (false≢true p)
 
-  pub sample-refused : (cause : Refusal) → settings_accepted s ≡ true → sample_check x ≡ SampleCheck.Refused cause → step_of e b s x ≡ turned_away b cause
+  pub sample-refused : (cause : Refusal) → settings_accepted s ≡ true → sample_check x ≡ Err cause → step_of e b s x ≡ turned_away b cause
   unfolding step_of
   sample-refused cause ok k = ap (on_settings e s x b) (good-settings ok) ∙ ap (on_sample e s x b) k
 
-  pub settings-refused : (cause : Refusal) (line : ℕ) → settings_check s ≡ SettingsCheck.Refused cause line → step_of e b s x ≡ turned_away b cause
+  pub settings-refused : (cause : Refusal) (line : ℕ) → settings_check s ≡ settings_refused cause line → step_of e b s x ≡ turned_away b cause
   unfolding step_of
   settings-refused cause line k = ap (on_settings e s x b) k

@@ -1,21 +1,23 @@
 -- One more turn of each loop, and its end: the range check and the rise along a line, and the lines in order.
 -- Assumes nothing.
-use mathlib.Core.Path.{◌≡◌, refl}
-use mathlib.Core.Bool.{Bool, true, false, cond, ◌&&◌}
+use Rattle.std.specs.Prelude.{Ok}
+use mathlib.Core.Path.{◌≡◌, refl, sym, ap}
+use mathlib.Core.Bool.{Bool, true, false, cond, not, ◌&&◌}
 use mathlib.Core.List.{List, [], ◌∷◌, map}
 use Prim.Native.Nat.{ℕ, suc, ◌+◌, ◌-◌, ◌<◌, ◌≤◌}
 use native.Mathlib.Numerals.{add-one}
 use native.Mathlib.Omega.{arith}
-use lib.IntN.{pos}
+use lib.IntN.{ℤ, pos, negsuc}
 use lib.ListN.{length, get_or, take, drop, length-drop, drop_of_length-le}
 use lib.Seq.{drop-cons}
-use lib.Signed.{lt_z}
+use lib.Signed.{le_z, lt_z}
 use Rattle.rules.specs.Tests.{all}
 use Rattle.rules.specs.Settings.{sheet_lines, Pair, pair, Row, row, rows, in_row, rising, line_check, check_from, lines_of, settings_check}
 use Rattle.rules.specs.declared.Settings.{Settings}
 use Rattle.rules.specs.declared.Refusal.{Refusal}
 use Rattle.rules.specs.declared.Refusal.TheVariants.{Range, Rise}
-use Rattle.rules.specs.declared.SettingsCheck.{SettingsCheck}
+use Rattle.rules.specs.Answers.{SettingsCheck, settings_refused}
+use Rattle.basics.proofs.Refusals.{same-refusal}
 use Rattle.ranges.specs.Rows.{row_at}
 use Rattle.pairs.specs.Pairs.{settings_line}
 use Rattle.settings.specs.Lines.{line_found, first_lines_check}
@@ -34,11 +36,21 @@ module _ (l : List Pair) (k : ℕ) where
   unfolding all
   range-end f h = rw (drop_of_length-le l h)
 
-  pub rise-more : suc k < length l → rising (drop k l) ≡ (lt_z (at l k).first (at l (k + 1)).first && rising (drop (k + 1) l))
-  unfolding rising
-  rise-more h =
-      let here : k < length l = omega arith in
-      rw (add-one, drop-cons l k (pair (pos 0) (pos 0)), drop-cons l (suc k) (pair (pos 0) (pos 0)))
+pub rise-more : (l : List Pair) (k : ℕ) → 1 ≤ k → k < length l
+    → rising (drop (k - 1) l) ≡ (lt_z (at l (k - 1)).first (at l k).first && rising (drop (k + 1 - 1) l))
+unfolding rising
+rise-more l k some h =
+    let here : k - 1 < length l = omega arith in
+    let next : k + 1 - 1 ≡ k = omega arith in
+    let same : suc (k - 1) ≡ k = omega arith in
+    rw (next, drop-cons l (k - 1) (pair (pos 0) (pos 0)), same, drop-cons l k (pair (pos 0) (pos 0)))
+
+-- at least is not less
+pub at-least : (a b : ℤ) → lt_z a b ≡ not (le_z b a)
+at-least (pos a) (pos b) = grind arith
+at-least (pos a) (negsuc b) = refl
+at-least (negsuc a) (pos b) = refl
+at-least (negsuc a) (negsuc b) = grind arith
 
 short : (l : List Pair) → length l ≤ 1 → rising l ≡ true
 unfolding rising
@@ -46,8 +58,8 @@ short [] h = refl
 short (p ∷ []) h = refl
 short (p ∷ q ∷ l) h = absurd (omega arith)
 
-pub rise-end : (l : List Pair) (k : ℕ) → length l ≤ k + 1 → rising (drop k l) ≡ true
-rise-end l k h = short (drop k l) (simp length-drop (omega arith))
+pub rise-end : (l : List Pair) (k : ℕ) → length l ≤ k → rising (drop (k - 1) l) ≡ true
+rise-end l k h = short (drop (k - 1) l) (simp length-drop (omega arith))
 
 -- ---- the lines in order
 
@@ -68,7 +80,7 @@ unfolding first_lines_check
 from_first n s = let whole : n - 0 ≡ n = omega arith in rw whole
 
 pub line-more : (n : ℕ) (s : Settings) (i : ℕ) → n ≤ sheet_lines → i < n
-    → from n s i ≡ line_check (row_at i) (settings_line s i) (from n s (i + 1)) (λ cause. SettingsCheck.Refused cause (i + 1))
+    → from n s i ≡ line_check (row_at i) (settings_line s i) (from n s (i + 1)) (λ cause. settings_refused cause (i + 1))
 unfolding check_from
 line-more n s i top h =
     let r : i < length rows = omega (arith, rows_long) in
@@ -76,7 +88,7 @@ line-more n s i top h =
     let left : n - i ≡ suc (n - suc i) = omega arith in
     rw (left, drop-cons rows i (row 0 0 0 0), drop-cons (lines_of s) i [], add-one (i + 1), add-one i)
 
-pub line-end : (n : ℕ) (s : Settings) (i : ℕ) → n ≤ i → from n s i ≡ SettingsCheck.Accepted
+pub line-end : (n : ℕ) (s : Settings) (i : ℕ) → n ≤ i → from n s i ≡ Ok tt
 unfolding check_from
 line-end n s i h = let none : n - i ≡ 0 = omega arith in rw none
 
@@ -89,23 +101,23 @@ all_lines s = refl
 
 module _ {A : Type 0} (r : Row) (ps : List Pair) (i : ℕ) (next : A) (refuse : Refusal → A) where
   -- a line in which nothing is found goes on to the next
-  pub line-passes : line_found r ps i ≡ SettingsCheck.Accepted → line_check r ps next refuse ≡ next
+  pub line-passes : line_found r ps i ≡ Ok tt → line_check r ps next refuse ≡ next
   line-passes e = by_tests (all (map (in_row r) ps)) (rising ps) e
     where
       by_tests : (a b : Bool)
-          → cond a (cond b SettingsCheck.Accepted (SettingsCheck.Refused Rise (i + 1))) (SettingsCheck.Refused Range (i + 1)) ≡ SettingsCheck.Accepted
+          → cond a (cond b (Ok tt) (settings_refused Rise (i + 1))) (settings_refused Range (i + 1)) ≡ Ok tt
           → cond a (cond b next (refuse Rise)) (refuse Range) ≡ next
       by_tests true true e = refl
       by_tests true false e = let z : ◌≡◌ {A = ℕ} 0 1 = cc in absurd (omega arith)
       by_tests false b e = let z : ◌≡◌ {A = ℕ} 0 1 = cc in absurd (omega arith)
 
   -- a line in which a cause is found refuses
-  pub line-refuses : (cause : Refusal) (n : ℕ) → line_found r ps i ≡ SettingsCheck.Refused cause n → (line_check r ps next refuse ≡ refuse cause) × (n ≡ i + 1)
+  pub line-refuses : (cause : Refusal) (n : ℕ) → line_found r ps i ≡ settings_refused cause n → (line_check r ps next refuse ≡ refuse cause) × (n ≡ i + 1)
   line-refuses cause n e = by_tests (all (map (in_row r) ps)) (rising ps) e
     where
       by_tests : (a b : Bool)
-          → cond a (cond b SettingsCheck.Accepted (SettingsCheck.Refused Rise (i + 1))) (SettingsCheck.Refused Range (i + 1)) ≡ SettingsCheck.Refused cause n
+          → cond a (cond b (Ok tt) (settings_refused Rise (i + 1))) (settings_refused Range (i + 1)) ≡ settings_refused cause n
           → (cond a (cond b next (refuse Rise)) (refuse Range) ≡ refuse cause) × (n ≡ i + 1)
       by_tests true true e = let z : ◌≡◌ {A = ℕ} 0 1 = cc in absurd (omega arith)
-      by_tests true false e = (cc, cc)
-      by_tests false b e = (cc, cc)
+      by_tests true false e = let same = same-refusal Rise cause (i + 1) n e in (ap refuse same.0, sym same.1)
+      by_tests false b e = let same = same-refusal Range cause (i + 1) n e in (ap refuse same.0, sym same.1)

@@ -1,32 +1,28 @@
 // Whether settings keep to the ranges and the strict rise of spec 3.5 and 3.6.
 #![tactic(auto)]
 
-ghost use Rattle.std.specs.Prelude.{◌≡◌, map, ◌<◌, ◌≤◌};
+ghost use Rattle.std.specs.Prelude.{◌≡◌, true, map, ◌<◌, ◌≤◌, IfOk, IfErr, Ok, Err};
 ghost use Rattle.rules.specs.Tests.{all};
-ghost use Rattle.rules.specs.Settings.{sheet_lines, in_row, rising, settings_check};
+ghost use Rattle.rules.specs.Settings.{sheet_lines, in_row, rising, settings_check, settings_accepted};
 ghost use Rattle.rules.specs.Refusals.{settings_number, line_of};
 ghost use Rattle.causes.specs.FirstCause.{first, settings_causes, cause_line};
-ghost use Rattle.ranges.specs.Rows.{row_of, row_at};
+ghost use Rattle.ranges.specs.Rows.{row_at};
 ghost use Rattle.pairs.specs.Pairs.{settings_line};
 ghost use Rattle.settings.specs.Lines.{line_found, first_lines_check};
 
 use pairs::{pair_at, pairs_in};
-use ranges::{Row, in_row, row_table};
-use rules::{Refusal, SHEET_LINES, Settings, SettingsCheck};
+use ranges::in_line;
+use rules::{Refusal, SHEET_LINES, Settings, SettingsCheck, SheetRefusal};
 
-// Whether every pair of a line lies in a row.
-fn line_in_row(row: Row, s: Settings, line: usize) -> bool
+// Whether every pair of a line lies in its row.
+fn line_in_row(s: Settings, line: usize) -> bool
     requires { line < sheet_lines }
-    ensures { result ≡ all (map (in_row (row_of row)) (settings_line s line)) }
+    ensures { result ≡ all (map (in_row (row_at line)) (settings_line s line)) }
 {
-    let count = pairs_in(line);
-    let mut k = 0;
-    while k < count {
-        let p = pair_at(s, line, k);
-        if !in_row(row, p) {
+    for k in 0..pairs_in(line) {
+        if !in_line(line, pair_at(s, line, k)) {
             return false;
         }
-        k += 1;
     }
     true
 }
@@ -36,44 +32,33 @@ fn rises(s: Settings, line: usize) -> bool
     requires { line < sheet_lines }
     ensures { result ≡ rising (settings_line s line) }
 {
-    let last = pairs_in(line) - 1;
-    let mut k = 0;
-    while k < last {
-        let left = pair_at(s, line, k);
-        let right = pair_at(s, line, k + 1);
-        if !(left.first < right.first) {
+    for k in 1..pairs_in(line) {
+        if pair_at(s, line, k - 1).first >= pair_at(s, line, k).first {
             return false;
         }
-        k += 1;
     }
     true
 }
 
-// Refusals 2 and 3 of one line, 2 before 3 (spec 4.3).
-fn line_check(row: Row, s: Settings, line: usize) -> SettingsCheck
-    requires { line < sheet_lines }
-    ensures { result ≡ line_found (row_of row) (settings_line s line) line }
-{
-    let range = line_in_row(row, s, line);
-    let rise = rises(s, line);
-    let number = (line + 1) as u8;
-    if !range {
-        return SettingsCheck::Refused(Refusal::Range, number);
-    }
-    if !rise {
-        return SettingsCheck::Refused(Refusal::Rise, number);
-    }
-    SettingsCheck::Accepted
-}
-
-// The same for a line of settings, counted from 0.
+// Refusals 2 and 3 of a line of settings, counted from 0; 2 before 3 (spec 4.3).
 pub fn check_line(s: Settings, line: usize) -> SettingsCheck
     requires { line < sheet_lines }
     ensures { result ≡ line_found (row_at line) (settings_line s line) line }
 {
-    let rows = row_table();
-    let row = rows[line];
-    line_check(row, s, line)
+    let number = (line + 1) as u8;
+    if !line_in_row(s, line) {
+        return Err(SheetRefusal {
+            cause: Refusal::Range,
+            line: number,
+        });
+    }
+    if !rises(s, line) {
+        return Err(SheetRefusal {
+            cause: Refusal::Rise,
+            line: number,
+        });
+    }
+    Ok(())
 }
 
 // Refusals 2 and 3 of the first so many lines: the first found in sheet order (spec 4.3).
@@ -81,20 +66,26 @@ pub fn check_first(s: Settings, lines: usize) -> SettingsCheck
     requires { lines ≤ sheet_lines }
     ensures { result ≡ first_lines_check lines s }
 {
-    let rows = row_table();
-    let mut line = 0;
-    while line < lines {
-        let row = rows[line];
-        let found = line_check(row, s, line);
-        line += 1;
-        match found {
-            SettingsCheck::Accepted => {}
-            SettingsCheck::Refused(_, _) => {
-                return found;
-            }
-        }
+    for line in 0..lines {
+        check_line(s, line)?;
     }
-    SettingsCheck::Accepted
+    Ok(())
+}
+
+// Settings that are accepted.
+#[derive(Clone, Copy)]
+pub struct Accepted {
+    pub settings: Settings,
+    pub ghost sheet: { settings_accepted settings ≡ true },
+}
+
+// The settings where they are accepted, and otherwise why they are refused.
+pub fn accept(s: Settings) -> Result<Accepted, SheetRefusal>
+    ensures accepted { IfOk result (λ a. (a.settings ≡ s) × (settings_check s ≡ Ok tt)) }
+    ensures refused { IfErr result (λ away. settings_check s ≡ Err away) }
+{
+    check(s)?;
+    Ok(Accepted { settings: s })
 }
 
 // Refusals 2 and 3 of all lines.

@@ -1,5 +1,6 @@
 -- Each sham reading of sheets is caught: one sheet that it should take and does not, one text that it should not take and does.
 -- Assumes nothing.
+use Rattle.std.specs.Prelude.{Ok}
 use mathlib.Core.Path.{◌≡◌, refl, sym, ap, ◌∙◌}
 use mathlib.Core.Bool.{true}
 use mathlib.Core.List.{List, [], ◌∷◌, ◌++◌, append-nil}
@@ -12,7 +13,7 @@ use Rattle.rules.specs.Settings.{lines_of, settings_accepted}
 use Rattle.rules.specs.Sheets.{SheetReading, refused_at, read_sheet}
 use Rattle.rules.specs.declared.Settings.{Settings}
 use Rattle.rules.specs.declared.Refusal.TheVariants.{Range}
-use Rattle.rules.specs.declared.SettingsCheck.{SettingsCheck}
+use Rattle.rules.specs.Answers.{settings_refused}
 use Rattle.formats.specs.Marks.{filled_in}
 use Rattle.formats.specs.Sheets.{written_lines, written_sheet, Complete, ReadsSheetsBack, AcceptsSheetsOnly}
 use Rattle.formats.proofs.Sheets.{sheet-read-back}
@@ -31,7 +32,7 @@ unfolding check_opened
 accepted = refl
 
 abbrev pub reading : SheetReading
-reading = record { check = SettingsCheck.Accepted; settings = quick; start = length (written_sheet quick) }
+reading = record { check = Ok tt; settings = quick; start = length (written_sheet quick) }
 
 pub quick-read : read_sheet (written_sheet quick) ≡ reading
 quick-read = ap read_sheet (sym (append-nil (written_sheet quick))) ∙ sheet-read-back quick [] complete accepted
@@ -41,7 +42,7 @@ pub turned-away : ¬ ReadsSheetsBack refuses_no_wait
 unfolding refuses_no_wait
 turned-away d =
     let e : refused_at Range 11 0 ≡ reading = rw (append-nil (written_sheet quick), quick-read) at (d quick [] complete accepted) in
-    let check : SettingsCheck.Refused Range 11 ≡ SettingsCheck.Accepted = ap (λ (r : SheetReading). r.check) e in
+    let check : settings_refused Range 11 ≡ Ok tt = ap (λ (r : SheetReading). r.check) e in
     let z : ◌≡◌ {A = ℕ} 0 1 = cc in
     omega arith
 

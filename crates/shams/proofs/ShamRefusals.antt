@@ -1,5 +1,6 @@
 -- Each sham of demand 1 is caught, by one call or one text.
 -- Assumes nothing.
+use Rattle.std.specs.Prelude.{Ok}
 use mathlib.Core.Path.{◌≡◌, refl, ap}
 use mathlib.Core.List.{List, [], ◌∷◌}
 use Prim.Native.Nat.{ℕ}
@@ -17,7 +18,7 @@ use Rattle.rules.specs.Sheets.{SheetReading, read_from, read_sheet}
 use Rattle.rules.specs.declared.Settings.{Settings}
 use Rattle.rules.specs.declared.Board.{Board}
 use Rattle.rules.specs.declared.Refusal.TheVariants.{Range}
-use Rattle.rules.specs.declared.SettingsCheck.{SettingsCheck}
+use Rattle.rules.specs.Answers.{settings_refused}
 use Rattle.formats.specs.Sheets.{written_sheet}
 use Rattle.causes.specs.FirstCause.{RefusesRightly}
 use Rattle.causes.specs.SheetCauses.{FirstCauseAt, SheetsRefusedRightly}
@@ -74,7 +75,7 @@ module _ (handed : List ℕ → List ℕ) where
   good-sheet d =
       let s = written_sheet quick in
       let clear = (sheets-refused-rightly.accepts s).0 (ap (λ (r : SheetReading). r.check) quick-read) in
-      let check : SettingsCheck.Refused Range 11 ≡ SettingsCheck.Accepted = rw quick-read at ((d.accepts s).1 clear) in
+      let check : settings_refused Range 11 ≡ Ok tt = rw quick-read at ((d.accepts s).1 clear) in
       let z : ◌≡◌ {A = ℕ} 0 1 = cc in
       omega arith
 

@@ -1,5 +1,6 @@
 -- Shams that keep the record and show other reports: which part of demand 2 catches each, and that the others hold.
 -- Assumes nothing.
+use Rattle.std.specs.Prelude.{Ok, Err}
 use mathlib.Core.Path.{◌≡◌, refl, sym, ap, ◌∙◌, subst}
 use mathlib.Core.Bool.{Bool, true, false, cond, false≢true}
 use mathlib.Core.Logic.{inl}
@@ -17,7 +18,7 @@ use Rattle.rules.specs.History.{serving, history_status, history_report}
 use Rattle.rules.specs.declared.Settings.{Settings}
 use Rattle.rules.specs.declared.Board.{Board}
 use Rattle.rules.specs.declared.Report.{Report}
-use Rattle.rules.specs.declared.Answer.{Answer}
+use Rattle.rules.specs.Answers.{Answer}
 use Rattle.rules.specs.declared.Stepped.{Stepped}
 use Rattle.causes.specs.Calls.{Call, Run, ruled_by, last_report, called, called_all, run_of, call_accepted, accepted_samples, Under}
 use Rattle.claims.specs.TripAndReturn.{status_before, status_now, Next, Shows, Refuses, Keeps, Trips, Returns}
@@ -47,8 +48,8 @@ abbrev answer_of : Board → Call → Answer
 answer_of b c = (step_of tabled b c.settings c.slice).answer
 
 number_same : (g : Report → Report) (a : Answer) → answer_number (reshown g a) ≡ answer_number a
-number_same g (Answer.Reported r) = refl
-number_same g (Answer.Refused cause) = refl
+number_same g (Ok r) = refl
+number_same g (Err cause) = refl
 
 -- ---- a board that shows other reports: its record is ours, and it refuses as ours does
 
@@ -89,8 +90,8 @@ statuses-same (c ∷ cs) r q e s =
     (by (answer_of r.board c) ∙ ap (λ (b : Board). (last_report q.report (answer_of b c)).status) e)
   where
     by : (a : Answer) → (last_report r.report (reshown (turned_over (in_service r.board.status)) a)).status ≡ (last_report q.report a).status
-    by (Answer.Reported x) = refl
-    by (Answer.Refused cause) = s
+    by (Ok x) = refl
+    by (Err cause) = s
 
 bits-before : (cs : List Call) → Under quick cs → status_before (showing tabled turned_over) cs ≡ history_status tabled quick (accepted_samples cs)
 unfolding report_of history_report
@@ -204,8 +205,8 @@ silent-one : (r : Run) (c : Call) → r.report.status ≡ 0 → (called (showing
 silent-one r c z = by (answer_of r.board c)
   where
     by : (a : Answer) → (last_report r.report (reshown (tripped (in_service r.board.status)) a)).status ≡ 0
-    by (Answer.Reported x) = refl
-    by (Answer.Refused cause) = z
+    by (Ok x) = refl
+    by (Err cause) = z
 
 silent : (cs : List Call) (r : Run) → r.report.status ≡ 0 → (called_all (showing tabled tripped) r cs).report.status ≡ 0
 silent [] r z = z

@@ -1,6 +1,6 @@
 -- Spec 13.13: shams that the two claims about ramp counts must stop.
 -- Assumes nothing.
-use Rattle.std.specs.Prelude.{cond, ◌&&◌, suc, min}
+use Rattle.std.specs.Prelude.{cond, ◌&&◌, suc, min, Ok}
 use Rattle.rules.specs.Settings.{settings_accepted}
 use Rattle.rules.specs.Samples.{Slice, Equipment, sample_accepted}
 use Rattle.rules.specs.Reports.{Items, report_of}
@@ -8,7 +8,6 @@ use Rattle.rules.specs.Records.{fresh, next, shown, step_of}
 use Rattle.rules.specs.History.{History, climbed, history_report}
 use Rattle.rules.specs.declared.Settings.{Settings}
 use Rattle.rules.specs.declared.Board.{Board}
-use Rattle.rules.specs.declared.Answer.{Answer}
 use Rattle.rules.specs.declared.Stepped.{Stepped}
 use Rattle.causes.specs.Calls.{Program}
 
@@ -21,7 +20,7 @@ longer st =
 abbrev on_longer : Equipment → Settings → Slice → Board → Stepped
 on_longer e st x b =
     let after = next e (longer st) x b in
-    record { board = after; answer = Answer.Reported (report_of (shown e (longer st) after)) }
+    record { board = after; answer = Ok (report_of (shown e (longer st) after)) }
 
 abbrev pub six_samples : Equipment → Program
 six_samples e =

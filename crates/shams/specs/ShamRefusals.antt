@@ -1,6 +1,6 @@
 -- Spec 13.6: sham operations and sham readings of sheets that demand 1 must stop.
 -- Assumes nothing.
-use Rattle.std.specs.Prelude.{Bool, cond, ◌&&◌, List, ◌++◌, map, ℕ, ◌-◌, eqb, length, take, drop}
+use Rattle.std.specs.Prelude.{Bool, cond, ◌&&◌, List, ◌++◌, map, ℕ, ◌-◌, eqb, length, take, drop, Ok, Err}
 use Rattle.rules.specs.Tests.{any}
 use Rattle.rules.specs.Sensing.{last_code, sensed}
 use Rattle.rules.specs.Settings.{settings_check}
@@ -12,8 +12,7 @@ use Rattle.rules.specs.Sheets.{SheetReading, read_sheet}
 use Rattle.rules.specs.declared.Settings.{Settings}
 use Rattle.rules.specs.declared.Board.{Board}
 use Rattle.rules.specs.declared.Refusal.TheVariants.{Code}
-use Rattle.rules.specs.declared.SettingsCheck.{SettingsCheck}
-use Rattle.rules.specs.declared.SampleCheck.{SampleCheck}
+use Rattle.rules.specs.Answers.{SettingsCheck, SampleCheck, settings_refused}
 use Rattle.rules.specs.declared.Stepped.{Stepped}
 use Rattle.causes.specs.Calls.{Operations}
 
@@ -42,8 +41,8 @@ stores_reading e =
 
 -- looks at the sample before the settings (spec 4.3)
 abbrev unless_refused : Board → SampleCheck → Stepped → Stepped
-unless_refused b SampleCheck.Accepted t = t
-unless_refused b (SampleCheck.Refused cause) t = turned_away b cause
+unless_refused b (Ok ok) t = t
+unless_refused b (Err cause) t = turned_away b cause
 
 unfoldable pub sample_first : Equipment → Operations
 sample_first e = sham_step (λ b st x. unless_refused b (sample_check x) (honest e b st x))
@@ -62,8 +61,8 @@ writes_what_fits e =
 -- ---- sham readings of sheets
 
 abbrev one_before : SettingsCheck → SettingsCheck
-one_before SettingsCheck.Accepted = SettingsCheck.Accepted
-one_before (SettingsCheck.Refused cause line) = SettingsCheck.Refused cause (line - 1)
+one_before (Ok ok) = Ok tt
+one_before (Err away) = settings_refused away.cause (away.line - 1)
 
 -- refuses as it should, and counts the lines from 0
 unfoldable pub lines_from_zero : List ℕ → SheetReading

@@ -5,7 +5,7 @@
 --   - readings of sheets, of lines and of lent records; answers to sample lines; printings.
 -- ShamRefusals.antt has those for demand 1. Each other file beside this one has the shams of one claim.
 -- Assumes nothing.
-use Rattle.std.specs.Prelude.{Bool, false, cond, not, ◌&&◌, List, [], ◌∷◌, ◌++◌, map, ℕ, suc, ◌-◌, ◌*◌, ◌/◌, min, max, eqb, leb, ℤ, pos, nat_abs, replicate, set, take, drop}
+use Rattle.std.specs.Prelude.{Bool, false, cond, not, ◌&&◌, List, [], ◌∷◌, ◌++◌, map, ℕ, suc, ◌-◌, ◌*◌, ◌/◌, min, max, eqb, leb, ℤ, pos, nat_abs, replicate, set, take, drop, Ok, Err}
 use Rattle.std.proofs.Math.Option.{Option, none, some}
 use Rattle.rules.specs.Tests.{all, any, within}
 use Rattle.rules.specs.Text.{feed, after_line}
@@ -25,8 +25,7 @@ use Rattle.rules.specs.declared.Settings.{Settings}
 use Rattle.rules.specs.declared.Board.{Board}
 use Rattle.rules.specs.declared.Refusal.TheVariants.{Range, Code}
 use Rattle.rules.specs.declared.Report.{Report}
-use Rattle.rules.specs.declared.SettingsCheck.{SettingsCheck}
-use Rattle.rules.specs.declared.Answer.{Answer}
+use Rattle.rules.specs.Answers.{SettingsCheck, Answer}
 use Rattle.rules.specs.declared.Stepped.{Stepped}
 use Rattle.formats.specs.Samples.{Answering}
 use Rattle.causes.specs.Calls.{Program}
@@ -41,7 +40,7 @@ honest e b st x = step_of e b st x
 
 -- a record and the report that it shows
 abbrev reporting : Equipment → Settings → Board → Stepped
-reporting e st b = record { board = b; answer = Answer.Reported (report_of (shown e st b)) }
+reporting e st b = record { board = b; answer = Ok (report_of (shown e st b)) }
 
 -- the record of a step, tripped instead
 abbrev tripped_instead : Equipment → Settings → Slice → Board → Stepped
@@ -99,7 +98,7 @@ turns_away e =
       start = fresh;
       step = λ b st x.
           let t = honest e b st x in
-          record { board = t.board; answer = cond (eqb b.status t.board.status) (Answer.Refused Code) t.answer };
+          record { board = t.board; answer = cond (eqb b.status t.board.status) (Err Code) t.answer };
     }
 
 -- turns away good samples, those with a code of 4095, with 4, and leaves the record: the step of `refuses_last_code`
@@ -120,8 +119,8 @@ takes_as_lent e =
 
 -- an answer whose report is another
 abbrev pub reshown : (Report → Report) → Answer → Answer
-reshown f (Answer.Refused cause) = Answer.Refused cause
-reshown f (Answer.Reported r) = Answer.Reported (f r)
+reshown f (Err cause) = Err cause
+reshown f (Ok r) = Ok (f r)
 
 -- by what is shown, from: in service before the step, the right report
 abbrev pub showing : Equipment → (Bool → Report → Report) → Program
@@ -313,8 +312,8 @@ steps_past_return e st b l = line_step e st b (cleaned l)
 
 -- the answers to the lines after the refused one, by the default settings
 abbrev further_answers : Equipment → SettingsCheck → List ℕ → List ℕ
-further_answers e SettingsCheck.Accepted rest = []
-further_answers e (SettingsCheck.Refused cause line) rest = answers_from e default_settings fresh (suc line) (lines_in (after_line rest))
+further_answers e (Ok ok) rest = []
+further_answers e (Err away) rest = answers_from e default_settings fresh (suc away.line) (lines_in (after_line rest))
 
 -- it goes on after the refusal line
 unfoldable pub going_on : Equipment → List ℕ → List ℕ
@@ -323,8 +322,8 @@ going_on e input =
     transcript e input ++ further_answers e r.check (drop r.start (read_part input))
 
 abbrev if_accepted : SettingsCheck → List ℕ → List ℕ
-if_accepted SettingsCheck.Accepted text = text
-if_accepted (SettingsCheck.Refused cause line) text = []
+if_accepted (Ok ok) text = text
+if_accepted (Err away) text = []
 
 -- it prints nothing
 unfoldable pub says_nothing : Equipment → List ℕ → List ℕ

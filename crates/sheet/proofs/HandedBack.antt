@@ -1,5 +1,6 @@
 -- The part that is handed back, by its place and its length.
 -- Assumes nothing.
+use Rattle.std.specs.Prelude.{Ok, Err}
 use mathlib.Core.Path.{◌≡◌, refl, sym, ap, ap₂, ◌∙◌}
 use mathlib.Core.List.{List, []}
 use Prim.Native.Nat.{ℕ, ◌+◌, ◌-◌, ◌≤◌}
@@ -11,14 +12,14 @@ use denote.Ref.{Bor}
 use Rattle.rules.specs.Text.{first_line}
 use Rattle.rules.specs.Sheets.{read_sheet, part_of, handed_back}
 use Rattle.rules.specs.declared.Refusal.{Refusal}
-use Rattle.rules.specs.declared.SettingsCheck.{SettingsCheck}
+use Rattle.rules.specs.Answers.{SettingsCheck, settings_refused}
 use Rattle.text.proofs.Lines.{line-take, line-length}
 use Rattle.sheet.specs.Parts.{IsPart, IsPartFrom}
 
 no_part : (check : SettingsCheck) → part_of check [] ≡ []
 unfolding first_line
-no_part SettingsCheck.Accepted = refl
-no_part (SettingsCheck.Refused cause line) = refl
+no_part (Ok ok) = refl
+no_part (Err away) = refl
 
 module _ (s : List ℕ) (check : SettingsCheck) (start : ℕ) where
   -- a start past the end
@@ -27,11 +28,11 @@ module _ (s : List ℕ) (check : SettingsCheck) (start : ℕ) where
       rw (sub_self (length s), drop_of_length-le s h, no_part check) refl
 
   -- what follows an accepted sheet
-  pub rest_part : check ≡ SettingsCheck.Accepted → take (length s - start) (drop start s) ≡ part_of check (drop start s)
+  pub rest_part : check ≡ Ok tt → take (length s - start) (drop start s) ≡ part_of check (drop start s)
   rest_part e = take_all (length s - start) (drop start s) (omega (arith, length-drop start s)) ∙ sym (ap (λ (k : SettingsCheck). part_of k (drop start s)) e)
 
   -- the refused line
-  pub line-part : (cause : Refusal) (n end : ℕ) → check ≡ SettingsCheck.Refused cause n → end ≡ start + length (first_line (drop start s))
+  pub line-part : (cause : Refusal) (n end : ℕ) → check ≡ settings_refused cause n → end ≡ start + length (first_line (drop start s))
       → take (end - start) (drop start s) ≡ part_of check (drop start s)
   line-part cause n end e p =
       let long : end - start ≡ length (first_line (drop start s)) = omega arith in

@@ -1,40 +1,37 @@
 -- Reading one line: with and without its form.
 -- Assumes nothing.
+use Rattle.std.specs.Prelude.{Ok, Err, Some, None}
 use mathlib.Core.Path.{◌≡◌, sym, ap, ◌∙◌}
-use mathlib.Core.Bool.{true, false, false≢true, true≢false}
 use mathlib.Core.List.{List}
 use mathlib.Core.Option.{Option, none, some}
 use Prim.Native.Nat.{ℕ, ◌+◌}
+use native.Mathlib.Omega.{arith}
 use lib.IntN.{ℤ}
 use Rattle.rules.specs.declared.Settings.{Settings}
+use Rattle.rules.specs.declared.SheetRefusal.{SheetRefusal}
 use Rattle.rules.specs.declared.Refusal.TheVariants.{Form}
-use Rattle.rules.specs.declared.SettingsCheck.{SettingsCheck}
+use Rattle.rules.specs.Answers.{SettingsCheck}
 use Rattle.ranges.specs.Rows.{row_at}
 use Rattle.pairs.specs.Pairs.{settings_line}
 use Rattle.settings.specs.Lines.{line_found}
 use Rattle.text.specs.Lines.{numbers_read}
-use Rattle.matching.specs.Places.{padded}
-use Rattle.text.specs.declared.Numbers.{Numbers}
 use Rattle.storing.specs.Stores.{with_numbers}
-use Rattle.sheet.specs.LineReads.{on_line}
-use Rattle.sheet.specs.declared.LineRead.{LineRead}
+use Rattle.sheet.specs.LineReads.{LineRead, accepted_as, on_line}
 
 module _ (i : ℕ) (st : Settings) where
   -- a line without its form
-  pub line-none : (o : Option (List ℤ)) (r : Numbers) → r ≡ numbers_read o → r.found ≡ false → (n : ℕ) → n ≡ i + 1
-      → ◌≡◌ {A = LineRead} (record { check = SettingsCheck.Refused Form n; settings = st }) (on_line i st o)
-  line-none none r e f n p = ap (λ (k : ℕ). record { check = SettingsCheck.Refused Form k; settings = st }) p
-  line-none (some ns) r e f n p = absurd (true≢false (sym (ap (λ (q : Numbers). q.found) e) ∙ f))
+  pub line-none : (o : Option (List ℤ)) → numbers_read o ≡ None → (away : SheetRefusal) → away ≡ record { cause = Form; line = i + 1 }
+      → ◌≡◌ {A = LineRead} (Err away) (on_line i st o)
+  line-none none e away p = ap Err p
+  line-none (some ns) e away p = let z : ◌≡◌ {A = ℕ} 0 1 = cc in absurd (omega arith)
 
   -- a line with it
-  pub line-some : (o : Option (List ℤ)) (r : Numbers) → r ≡ numbers_read o → r.found ≡ true
-      → (next : Settings) (check : SettingsCheck) → next ≡ with_numbers st i r.n → check ≡ line_found (row_at i) (settings_line next i) i
-      → ◌≡◌ {A = LineRead} (record { check = check; settings = next }) (on_line i st o)
-  line-some none r e f next check p q = absurd (false≢true (sym (ap (λ (k : Numbers). k.found) e) ∙ f))
-  line-some (some ns) r e f next check p q =
-      let same : next ≡ with_numbers st i (padded ns) = p ∙ ap (λ (k : Numbers). with_numbers st i k.n) e in
-      made (q ∙ ap (λ (s : Settings). line_found (row_at i) (settings_line s i) i) same) same
+  pub line-some : (o : Option (List ℤ)) (n : List ℤ) → numbers_read o ≡ Some n → (next : Settings) → next ≡ with_numbers st i n
+      → (check : SettingsCheck) → check ≡ line_found (row_at i) (settings_line next i) i → accepted_as next check ≡ on_line i st o
+  line-some none n e next p check q = let z : ◌≡◌ {A = ℕ} 0 1 = cc in absurd (omega arith)
+  line-some (some ns) n e next p check q =
+      let same : next ≡ with_numbers st i _ = p ∙ ap (λ (k : List ℤ). with_numbers st i k) (some-injective (sym e)) in
+      rw (q, same)
     where
-      made : {c c' : SettingsCheck} {s s' : Settings} → c ≡ c' → s ≡ s'
-          → ◌≡◌ {A = LineRead} (record { check = c; settings = s }) (record { check = c'; settings = s' })
-      made u v = rw (u, v)
+      some-injective : {a b : List ℤ} → Some a ≡ Some b → a ≡ b
+      some-injective r = cc

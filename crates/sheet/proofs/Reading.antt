@@ -1,5 +1,6 @@
 -- One line more of a sheet: what reading it says of the rest.
 -- Assumes nothing.
+use Rattle.std.specs.Prelude.{Result, Ok, Err}
 use mathlib.Core.Path.{◌≡◌, refl, sym, ap, ap₂, ◌∙◌, subst, fun_ext}
 use mathlib.Core.Bool.{true, false}
 use mathlib.Core.List.{List, [], ◌∷◌, ◌++◌}
@@ -18,7 +19,8 @@ use Rattle.rules.specs.Sheets.{pairs, settings_of, SheetReading, refused_at, on_
 use Rattle.rules.specs.declared.Settings.{Settings}
 use Rattle.rules.specs.declared.Refusal.{Refusal}
 use Rattle.rules.specs.declared.Refusal.TheVariants.{Form}
-use Rattle.rules.specs.declared.SettingsCheck.{SettingsCheck}
+use Rattle.rules.specs.declared.SheetRefusal.{SheetRefusal}
+use Rattle.rules.specs.Answers.{SettingsCheck, settings_refused}
 use Rattle.formats.proofs.Forms.{line-written}
 use Rattle.ranges.specs.Rows.{row_at}
 use Rattle.pairs.specs.Pairs.{settings_line}
@@ -29,10 +31,16 @@ use Rattle.matching.specs.Places.{padded}
 use borrow.Author.Tests.{lt-ltb, le-ltb}
 use Rattle.text.proofs.Lines.{line_after, line-take}
 use Rattle.storing.specs.Stores.{with_numbers}
-use Rattle.sheet.specs.LineReads.{on_line, line_read}
+use Rattle.sheet.specs.LineReads.{accepted_as, on_line, line_read}
 use Rattle.sheet.specs.Outcomes.{Gives}
-use Rattle.sheet.specs.declared.LineRead.{LineRead}
 use Rattle.sheet.proofs.Stored.{in-line, one_more, eight-limits}
+
+same-err : {T : Type 0} (a b : SheetRefusal) → ◌≡◌ {A = Result T SheetRefusal} (Err a) (Err b) → a ≡ b
+same-err {T} a b e = ap why e
+  where
+    why : Result T SheetRefusal → SheetRefusal
+    why (Ok ok) = a
+    why (Err away) = away
 
 rows_long : length rows ≡ sheet_lines
 unfolding rows
@@ -99,7 +107,7 @@ module _ (s : List ℕ) (i at : ℕ) (lines : List (List Pair)) (h : i < sheet_l
 
   module _ (long : length lines ≡ i) where
     accepted-numbers : (ns : List ℤ) → numbers_of (form_at i) line ≡ some ns
-        → line_found (row_at i) (settings_line (with_numbers (settings_of lines) i (padded ns)) i) i ≡ SettingsCheck.Accepted
+        → line_found (row_at i) (settings_line (with_numbers (settings_of lines) i (padded ns)) i) i ≡ Ok tt
         → Gone (with_numbers (settings_of lines) i (padded ns))
     accepted-numbers ns p c =
         let suit = (line-written (form_at i) line ns p).suit in
@@ -114,7 +122,7 @@ module _ (s : List ℕ) (i at : ℕ) (lines : List (List Pair)) (h : i < sheet_l
         }
 
     refused-numbers : (ns : List ℤ) → numbers_of (form_at i) line ≡ some ns → (cause : Refusal) (n : ℕ)
-        → line_found (row_at i) (settings_line (with_numbers (settings_of lines) i (padded ns)) i) i ≡ SettingsCheck.Refused cause n
+        → line_found (row_at i) (settings_line (with_numbers (settings_of lines) i (padded ns)) i) i ≡ settings_refused cause n
         → (from s i at lines ≡ refused_at cause (i + 1) at) × (n ≡ i + 1)
     refused-numbers ns p cause n c =
         let suit = (line-written (form_at i) line ns p).suit in
@@ -124,40 +132,47 @@ module _ (s : List ℕ) (i at : ℕ) (lines : List (List Pair)) (h : i < sheet_l
         (from-ended ∙ ap (λ (o : Option (List ℤ)). on_numbers (i + 1) at (row_at i) o (λ ps. from s (i + 1) past (lines ++ (ps ∷ [])))) p ∙ l.0, l.1)
 
     -- the two together, for what `read_line` gives
-    pub on-accepted : (r : LineRead) → r ≡ line_read i line (settings_of lines) → r.check ≡ SettingsCheck.Accepted → Gone r.settings
+    pub on-accepted : (next : Settings) → line_read i line (settings_of lines) ≡ Ok next → Gone next
     unfolding line_read
-    on-accepted r q c = by (numbers_of (form_at i) line) refl
+    on-accepted next c = by (numbers_of (form_at i) line) refl
       where
-        by : (o : Option (List ℤ)) → numbers_of (form_at i) line ≡ o → Gone r.settings
+        by : (o : Option (List ℤ)) → numbers_of (form_at i) line ≡ o → Gone next
         by none p =
-            let clash : SettingsCheck.Refused Form (i + 1) ≡ SettingsCheck.Accepted
-            = sym (ap (λ (k : LineRead). k.check) (q ∙ ap (on_line i (settings_of lines)) p)) ∙ c in
+            let clash = sym (ap (on_line i (settings_of lines)) p) ∙ c in
             let z : ◌≡◌ {A = ℕ} 0 1 = cc in absurd (omega arith)
         by (some ns) p =
-            let is : r ≡ on_line i (settings_of lines) (some ns) = q ∙ ap (on_line i (settings_of lines)) p in
-            subst Gone (sym (ap (λ (k : LineRead). k.settings) is)) (accepted-numbers ns p (sym (ap (λ (k : LineRead). k.check) is) ∙ c))
+            let found = line_found (row_at i) (settings_line (with_numbers (settings_of lines) i (padded ns)) i) i in
+            let is = by_found found (sym (ap (on_line i (settings_of lines)) p) ∙ c) in
+            subst Gone is.1 (accepted-numbers ns p is.0)
+          where
+            by_found : (k : SettingsCheck) → accepted_as (with_numbers (settings_of lines) i (padded ns)) k ≡ Ok next
+                → (k ≡ Ok tt) × (with_numbers (settings_of lines) i (padded ns) ≡ next)
+            by_found (Ok ok) e = (refl, cc)
+            by_found (Err away) e = let z : ◌≡◌ {A = ℕ} 0 1 = cc in absurd (omega arith)
 
-    pub on-refused : (r : LineRead) → r ≡ line_read i line (settings_of lines) → (cause : Refusal) (n : ℕ) → r.check ≡ SettingsCheck.Refused cause n
-        → (from s i at lines ≡ refused_at cause (i + 1) at) × (n ≡ i + 1)
+    pub on-refused : (away : SheetRefusal) → line_read i line (settings_of lines) ≡ Err away
+        → (from s i at lines ≡ refused_at away.cause (i + 1) at) × (away.line ≡ i + 1)
     unfolding line_read
-    on-refused r q cause n c = by (numbers_of (form_at i) line) refl
+    on-refused away c = by (numbers_of (form_at i) line) refl
       where
-        by : (o : Option (List ℤ)) → numbers_of (form_at i) line ≡ o → (from s i at lines ≡ refused_at cause (i + 1) at) × (n ≡ i + 1)
+        by : (o : Option (List ℤ)) → numbers_of (form_at i) line ≡ o → (from s i at lines ≡ refused_at away.cause (i + 1) at) × (away.line ≡ i + 1)
         by none p =
-            let same : SettingsCheck.Refused Form (i + 1) ≡ SettingsCheck.Refused cause n
-            = sym (ap (λ (k : LineRead). k.check) (q ∙ ap (on_line i (settings_of lines)) p)) ∙ c in
-            let f : Form ≡ cause = cc in (
+            let same = same-err (record { cause = Form; line = i + 1 }) away (sym (ap (on_line i (settings_of lines)) p) ∙ c) in (
               from-ended ∙ ap (λ (o : Option (List ℤ)). on_numbers (i + 1) at (row_at i) o (λ ps. from s (i + 1) past (lines ++ (ps ∷ [])))) p
-                  ∙ ap (λ (k : Refusal). refused_at k (i + 1) at) f,
-              cc,
+                  ∙ ap (λ (k : SheetRefusal). refused_at k.cause (i + 1) at) same,
+              sym (ap (λ (k : SheetRefusal). k.line) same),
             )
         by (some ns) p =
-            let is : r ≡ on_line i (settings_of lines) (some ns) = q ∙ ap (on_line i (settings_of lines)) p in
-            refused-numbers ns p cause n (sym (ap (λ (k : LineRead). k.check) is) ∙ c)
+            let found = line_found (row_at i) (settings_line (with_numbers (settings_of lines) i (padded ns)) i) i in
+            refused-numbers ns p away.cause away.line (by_found found (sym (ap (on_line i (settings_of lines)) p) ∙ c))
+          where
+            by_found : (k : SettingsCheck) → accepted_as (with_numbers (settings_of lines) i (padded ns)) k ≡ Err away → k ≡ Err away
+            by_found (Ok ok) e = let z : ◌≡◌ {A = ℕ} 0 1 = cc in absurd (omega arith)
+            by_found (Err k) e = ap Err (same-err k away e)
 
 -- past the last line
 pub from_end : (s : List ℕ) (i at : ℕ) (lines : List (List Pair)) → sheet_lines ≤ i
-    → from s i at lines ≡ record { check = SettingsCheck.Accepted; settings = settings_of lines; start = at }
+    → from s i at lines ≡ record { check = Ok tt; settings = settings_of lines; start = at }
 unfolding read_from
 from_end s i at lines h = rw (drop_of_length-le rows {i = i} (omega (arith, rows_long)))
 
@@ -176,32 +191,27 @@ unfolding read_sheet
 beginning s settings e = record { lines = []; long = refl; low = omega arith; inside = omega arith; held = e; reading = refl }
 
 -- what `read_line` was lent is the line
-read_is : (s : List ℕ) (i at end : ℕ) (settings : Settings) (lines : List (List Pair)) (r : LineRead)
-    → r ≡ line_read i (take (end - at) (drop at s)) settings → end ≡ at + length (first_line (drop at s)) → settings ≡ settings_of lines
-    → r ≡ line_read i (first_line (drop at s)) (settings_of lines)
-read_is s i at end settings lines r e p q =
+read_is : (s : List ℕ) (i at end : ℕ) (settings : Settings) (lines : List (List Pair)) → end ≡ at + length (first_line (drop at s)) → settings ≡ settings_of lines
+    → line_read i (take (end - at) (drop at s)) settings ≡ line_read i (first_line (drop at s)) (settings_of lines)
+read_is s i at end settings lines p q =
     let n : end - at ≡ length (first_line (drop at s)) = omega arith in
-    e ∙ ap₂ (line_read i) (ap (λ (k : ℕ). take k (drop at s)) n ∙ line-take (drop at s)) q
+    ap₂ (line_read i) (ap (λ (k : ℕ). take k (drop at s)) n ∙ line-take (drop at s)) q
 
 module _ (s : List ℕ) (settings : Settings) (at i end : ℕ) (going : Going s settings at i) (h : i < sheet_lines)
     (place : end ≡ at + length (first_line (drop at s))) (ended : ltb end (length s) ≡ has_feed (drop at s)) where
   -- an unended or missing line
-  pub unended : length s ≤ end → (n : ℕ) (zeros : Settings) → n ≡ i + 1 → zeros ≡ settings_of []
-      → Gives (record { check = SettingsCheck.Refused Form n; settings = zeros; start = at }) (read_sheet s)
-  unended l n zeros p q =
+  pub unended : length s ≤ end → Gives (record { check = settings_refused Form (i + 1); settings = settings_of []; start = at }) (read_sheet s)
+  unended l =
       let is : read_sheet s ≡ refused_at Form (i + 1) at = going.reading ∙ from-unended s i at going.lines h (sym ended ∙ le-ltb end (length s) l) in
-      rw is (record { check = ap (SettingsCheck.Refused Form) p; settings = q; start = refl })
+      rw is (record { check = refl; settings = refl; start = refl })
 
-  module _ (l : end < length s) (r : LineRead) (e : r ≡ line_read i (take (end - at) (drop at s)) settings) where
+  module _ (l : end < length s) where
     feed-there : has_feed (drop at s) ≡ true
     feed-there = sym ended ∙ lt-ltb end (length s) l
 
-    line-is : r ≡ line_read i (first_line (drop at s)) (settings_of going.lines)
-    line-is = read_is s i at end settings going.lines r e place going.held
-
-    pub goes_on : r.check ≡ SettingsCheck.Accepted → Going s r.settings (end + 1) (i + 1)
-    goes_on c =
-        let g = on-accepted s i at going.lines h feed-there going.long r line-is c in
+    pub goes_on : (next : Settings) → line_read i (take (end - at) (drop at s)) settings ≡ Ok next → Going s next (end + 1) (i + 1)
+    goes_on next c =
+        let g = on-accepted s i at going.lines h feed-there going.long next (sym (read_is s i at end settings going.lines place going.held) ∙ c) in
         let p : at + length (first_line (drop at s)) + 1 ≡ end + 1 = omega arith in
         record {
           lines = going.lines ++ (g.read ∷ []);
@@ -212,13 +222,13 @@ module _ (s : List ℕ) (settings : Settings) (at i end : ℕ) (going : Going s 
           reading = going.reading ∙ g.reading ∙ ap (λ (n : ℕ). from s (i + 1) n (going.lines ++ (g.read ∷ []))) p;
         }
 
-    pub stops : (cause : Refusal) (n : ℕ) → r.check ≡ SettingsCheck.Refused cause n → (zeros : Settings) → zeros ≡ settings_of []
-        → Gives (record { check = r.check; settings = zeros; start = at }) (read_sheet s)
-    stops cause n c zeros q =
-        let k = on-refused s i at going.lines h feed-there going.long r line-is cause n c in
-        rw (going.reading ∙ k.0) (record { check = c ∙ ap (SettingsCheck.Refused cause) k.1; settings = q; start = refl })
+    pub stops : (away : SheetRefusal) → line_read i (take (end - at) (drop at s)) settings ≡ Err away
+        → Gives (record { check = Err away; settings = settings_of []; start = at }) (read_sheet s)
+    stops away c =
+        let k = on-refused s i at going.lines h feed-there going.long away (sym (read_is s i at end settings going.lines place going.held) ∙ c) in
+        rw (going.reading ∙ k.0) (record { check = ap (settings_refused away.cause) k.1; settings = refl; start = refl })
 
 pub finished : (s : List ℕ) (settings : Settings) (at i : ℕ) → Going s settings at i → sheet_lines ≤ i
-    → Gives (record { check = SettingsCheck.Accepted; settings = settings; start = at }) (read_sheet s)
+    → Gives (record { check = Ok tt; settings = settings; start = at }) (read_sheet s)
 finished s settings at i going l =
     rw (going.reading ∙ from_end s i at going.lines l) (record { check = refl; settings = going.held; start = refl })

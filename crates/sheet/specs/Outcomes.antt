@@ -4,7 +4,7 @@ use Rattle.std.specs.Prelude.{◌≡◌, List, ◌↔◌, ℕ, ◌+◌, ◌<◌}
 use Rattle.rules.specs.Settings.{sheet_lines}
 use Rattle.rules.specs.Refusals.{settings_number, line_of}
 use Rattle.rules.specs.Sheets.{SheetReading, read_sheet}
-use Rattle.rules.specs.declared.SettingsCheck.{SettingsCheck}
+use Rattle.rules.specs.Answers.{SettingsCheck}
 use Rattle.causes.specs.SheetCauses.{FirstCauseAt, line_cause}
 use Rattle.sheet.specs.declared.SheetOutcome.{SheetOutcome}
 

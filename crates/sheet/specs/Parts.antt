@@ -3,7 +3,7 @@
 use Rattle.std.specs.Prelude.{◌≡◌, List, ℕ, ◌+◌, min, length, drop}
 use Rattle.std.specs.Borrow.{Bor}
 use Rattle.rules.specs.Sheets.{read_sheet, part_of, handed_back}
-use Rattle.rules.specs.declared.SettingsCheck.{SettingsCheck}
+use Rattle.rules.specs.Answers.{SettingsCheck}
 
 -- r is what the rules hand back of s, at its place in the memory of s
 pub record IsPart (s r : Bor (List ℕ)) : Type 0 where

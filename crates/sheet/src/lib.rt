@@ -1,29 +1,31 @@
 // Spec 3.7 to 3.10: reading a sheet from lent bytes.
 #![tactic(auto)]
 
-ghost use Rattle.std.specs.Prelude.{◌≡◌, ◌+◌, ◌<◌, ◌≤◌, length};
+ghost use Rattle.std.specs.Prelude.{◌≡◌, [], ◌+◌, ◌<◌, ◌≤◌, length, Err};
 ghost use Rattle.rules.specs.Settings.{sheet_lines};
+ghost use Rattle.rules.specs.Sheets.{settings_of};
+ghost use Rattle.rules.specs.declared.Refusal.TheVariants.{Form};
 ghost use Rattle.sheet.specs.LineReads.{line_read};
 ghost use Rattle.sheet.specs.Outcomes.{SheetGiven};
 ghost use Rattle.sheet.specs.Parts.{IsPart, IsPartFrom};
 
-use rules::{Refusal, SHEET_LINES, Settings, SettingsCheck};
+use rules::{Refusal, SHEET_LINES, Settings, SettingsCheck, SheetRefusal};
 use settings::check_line;
 use storing::{no_settings, with_numbers};
 use text::{form_numbers, line_end};
 
-// What reading a line gives: the check, and the settings with the line's numbers.
-#[derive(Clone, Copy)]
-pub struct LineRead {
-    pub check: SettingsCheck,
-    pub settings: Settings,
-}
+// What reading a line gives: the settings with its numbers, or why it is refused.
+pub type LineRead = Result<Settings, SheetRefusal>;
 
-fn line_number(line: usize) -> u8
+// Line i, counted from 0, that has not its form or is not there.
+pub fn formless(line: usize) -> SheetRefusal
     requires { line < sheet_lines }
-    ensures { result ≡ line + 1 }
+    ensures { result ≡ record { cause = Form; line = line + 1 } }
 {
-    (line + 1) as u8
+    SheetRefusal {
+        cause: Refusal::Form,
+        line: (line + 1) as u8,
+    }
 }
 
 // Line i of a sheet, counted from 0, without its line feed: against its form, then for 2 and 3.
@@ -31,20 +33,12 @@ pub fn read_line(i: usize, line: &[u8], before: Settings) -> LineRead
     requires { i < sheet_lines }
     ensures { result ≡ line_read i line.now before }
 {
-    let read = form_numbers(i, line);
-    if !read.found {
-        return LineRead {
-            check: SettingsCheck::Refused(Refusal::Form, line_number(i)),
-            settings: before,
-        };
-    }
-    let n = read.n;
+    let Some(n) = form_numbers(i, line) else {
+        return Err(formless(i));
+    };
     let next = with_numbers(before, i, n);
-    let check = check_line(next, i);
-    LineRead {
-        check,
-        settings: next,
-    }
+    check_line(next, i)?;
+    Ok(next)
 }
 
 // What reading a sheet gives: the check; the settings, all 0 where it is refused; and where the part handed back begins.
@@ -55,6 +49,17 @@ pub struct SheetOutcome {
     pub start: usize,
 }
 
+// A sheet refused at a line that begins at a place.
+fn refused_at(why: SheetRefusal, start: usize) -> SheetOutcome
+    ensures { result ≡ record { check = Err why; settings = settings_of []; start = start } }
+{
+    SheetOutcome {
+        check: Err(why),
+        settings: no_settings(),
+        start,
+    }
+}
+
 // The sheet at the front of lent bytes. What follows its last line is not looked at.
 pub fn read(s: &[u8]) -> SheetOutcome
     ensures sheet_given { SheetGiven s.now result }
@@ -62,35 +67,21 @@ pub fn read(s: &[u8]) -> SheetOutcome
 {
     let mut settings = no_settings();
     let mut at = 0;
-    let mut i = 0;
-    while i < SHEET_LINES {
+    for i in 0..SHEET_LINES {
         let end = line_end(s, at);
         if end >= s.len() {
-            return SheetOutcome {
-                check: SettingsCheck::Refused(Refusal::Form, line_number(i)),
-                settings: no_settings(),
-                start: at,
-            };
+            return refused_at(formless(i), at);
         }
-        let r = read_line(i, &s[at..end], settings);
-        let check = r.check;
-        i += 1;
-        match check {
-            SettingsCheck::Accepted => {
-                settings = r.settings;
+        match read_line(i, &s[at..end], settings) {
+            Ok(next) => {
+                settings = next;
                 at = end + 1;
             }
-            SettingsCheck::Refused(_, _) => {
-                return SheetOutcome {
-                    check,
-                    settings: no_settings(),
-                    start: at,
-                };
-            }
+            Err(why) => return refused_at(why, at),
         }
     }
     SheetOutcome {
-        check: SettingsCheck::Accepted,
+        check: Ok(()),
         settings,
         start: at,
     }
@@ -106,8 +97,8 @@ pub fn part_from(s: &[u8], check: SettingsCheck, start: usize) -> &[u8]
         return &s[n..n];
     }
     match check {
-        SettingsCheck::Accepted => &s[start..n],
-        SettingsCheck::Refused(_, _) => {
+        Ok(()) => &s[start..n],
+        Err(_) => {
             let end = line_end(s, start);
             &s[start..end]
         }

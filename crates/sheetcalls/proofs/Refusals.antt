@@ -1,5 +1,6 @@
 -- Demand 1 of reading a sheet: it is refused with the first cause, and a refused one leaves the lent settings as they were.
 -- Assumes nothing.
+use Rattle.std.specs.Prelude.{Ok, Err}
 use mathlib.Core.Path.{◌≡◌, refl, ap}
 use mathlib.Core.List.{List}
 use mathlib.Core.Logic.{◌↔◌}
@@ -9,7 +10,7 @@ use Rattle.rules.specs.Settings.{sheet_lines}
 use Rattle.rules.specs.Refusals.{settings_number}
 use Rattle.rules.specs.Sheets.{read_sheet}
 use Rattle.rules.specs.declared.Settings.{Settings}
-use Rattle.rules.specs.declared.SettingsCheck.{SettingsCheck}
+use Rattle.rules.specs.Answers.{SettingsCheck}
 use Rattle.causes.specs.SheetCauses.{FirstCauseAt, line_cause}
 use Rattle.basics.proofs.Refusals.{number-bounds, none-refused}
 use Rattle.laws.proofs.SheetCauses.{sheets-refused-rightly}
@@ -27,8 +28,8 @@ module _ (s : List ℕ) where
   settings-kept before h = by (read_sheet s).check h
     where
       by : (c : SettingsCheck) → 0 < settings_number c → settings_or before c (read_sheet s).settings ≡ before
-      by SettingsCheck.Accepted k = absurd (omega (arith, k))
-      by (SettingsCheck.Refused cause line) k = refl
+      by (Ok ok) k = absurd (omega (arith, k))
+      by (Err away) k = refl
 
   sheet-accepted : ((sheet_answer s).number ≡ 0) ↔ ((i : ℕ) → i < sheet_lines → line_cause i s ≡ 0)
   unfolding sheet_answer
@@ -41,8 +42,8 @@ module _ (s : List ℕ) where
   settings-stored before = by (read_sheet s).check
     where
       by : (c : SettingsCheck) → settings_number c ≡ 0 → settings_or before c (read_sheet s).settings ≡ (read_sheet s).settings
-      by SettingsCheck.Accepted h = refl
-      by (SettingsCheck.Refused cause line) h = absurd (omega (arith, h, (number-bounds cause).0))
+      by (Ok ok) h = refl
+      by (Err away) h = absurd (omega (arith, h, (number-bounds away.cause).0))
 
 pub sheet-refuses : SheetRefuses
 sheet-refuses =

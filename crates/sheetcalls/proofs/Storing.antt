@@ -1,23 +1,32 @@
--- What the exported reading of a sheet stores, from what the reading by value says: the settings where its number is 0, and nothing else.
+-- What the exported reading of a sheet stores, from what the reading by value gives: its settings where it is accepted, and nothing else.
 -- Assumes nothing.
-use mathlib.Core.Path.{◌≡◌, sym, ◌∙◌, subst}
+use Rattle.std.specs.Prelude.{Ok, Err, is_ok}
+use mathlib.Core.Path.{◌≡◌, refl, sym, ap₂, ◌∙◌}
+use mathlib.Core.Bool.{true, false, false≢true}
 use mathlib.Core.List.{List}
-use Prim.Native.Nat.{ℕ, ◌<◌}
+use Prim.Native.Nat.{ℕ}
 use Rattle.rules.specs.Sheets.{read_sheet}
 use Rattle.rules.specs.declared.Settings.{Settings}
-use Rattle.sheetcalls.specs.SheetAnswers.{sheet_answer, settings_after, SheetLeaves}
-use Rattle.sheetcalls.specs.declared.SheetCall.{SheetCall}
-use Rattle.sheetcalls.specs.declared.SheetAnswer.{SheetAnswer}
-use Rattle.sheetcalls.proofs.Refusals.{settings-kept, settings-stored}
+use Rattle.rules.specs.Answers.{SettingsCheck}
+use Rattle.sheet.specs.Outcomes.{Gives}
+use Rattle.sheet.specs.declared.SheetOutcome.{SheetOutcome}
+use Rattle.sheetcalls.specs.SheetAnswers.{settings_after, settings_or}
 
-module _ (s : List ℕ) where
-  abbrev pub SheetSays : SheetCall → Type 0
-  SheetSays r = (r.settings ≡ (read_sheet s).settings) × (r.answer ≡ sheet_answer s)
+sheet-leaves : (s : List ℕ) (d : SheetOutcome) → Gives d (read_sheet s) → (before : Settings) (c : SettingsCheck) → d.check ≡ c
+    → settings_or before c d.settings ≡ settings_after before s
+unfolding settings_after
+sheet-leaves s d e before c told = ap₂ (settings_or before) (sym told ∙ e.check) e.settings
 
-  pub sheet-stored : (before : Settings) (r : SheetCall) → SheetSays r → r.answer.number ≡ 0 → SheetLeaves s before r.settings r.answer
-  sheet-stored before r says zero =
-      (says.0 ∙ sym (settings-stored s before (subst (λ (a : SheetAnswer). a.number ≡ 0) says.1 zero)), says.1)
+pub sheet-stored : (s : List ℕ) (d : SheetOutcome) → Gives d (read_sheet s) → (before : Settings) → is_ok d.check ≡ true → d.settings ≡ settings_after before s
+sheet-stored s d e before = by d.check refl
+  where
+    by : (c : SettingsCheck) → d.check ≡ c → is_ok c ≡ true → d.settings ≡ settings_after before s
+    by (Ok ok) told h = sheet-leaves s d e before (Ok ok) told
+    by (Err away) told h = absurd (false≢true h)
 
-  pub sheet-kept : (before : Settings) (r : SheetCall) → SheetSays r → 0 < r.answer.number → SheetLeaves s before before r.answer
-  sheet-kept before r says refused =
-      (sym (settings-kept s before (subst (λ (a : SheetAnswer). 0 < a.number) says.1 refused)), says.1)
+pub sheet-kept : (s : List ℕ) (d : SheetOutcome) → Gives d (read_sheet s) → (before : Settings) → is_ok d.check ≡ false → before ≡ settings_after before s
+sheet-kept s d e before = by d.check refl
+  where
+    by : (c : SettingsCheck) → d.check ≡ c → is_ok c ≡ false → before ≡ settings_after before s
+    by (Ok ok) told h = absurd (false≢true (sym h))
+    by (Err away) told h = sheet-leaves s d e before (Err away) told

@@ -1,11 +1,11 @@
 -- Spec 3.9, 5.6, 11.3, 11.4: what reading a sheet over the C boundary answers and leaves in lent memory, from the rules' reading.
 -- Assumes nothing.
-use Rattle.std.specs.Prelude.{◌≡◌, List, ℕ}
+use Rattle.std.specs.Prelude.{◌≡◌, List, ℕ, Ok, Err}
 use Rattle.std.proofs.Math.ListN as L
 use Rattle.rules.specs.Refusals.{settings_number, line_of}
 use Rattle.rules.specs.Sheets.{read_sheet, handed_back}
 use Rattle.rules.specs.declared.Settings.{Settings}
-use Rattle.rules.specs.declared.SettingsCheck.{SettingsCheck}
+use Rattle.rules.specs.Answers.{SettingsCheck}
 use Rattle.sheetcalls.specs.declared.SheetAnswer.{SheetAnswer}
 
 -- number and line, and the part handed back as its place and length in the caller's own bytes
@@ -20,8 +20,8 @@ sheet_answer s =
 
 -- accepted settings are stored (spec 5.6)
 abbrev pub settings_or : Settings → SettingsCheck → Settings → Settings
-settings_or before SettingsCheck.Accepted read = read
-settings_or before (SettingsCheck.Refused cause line) read = before
+settings_or before (Ok ok) read = read
+settings_or before (Err away) read = before
 
 unfoldable pub settings_after : Settings → List ℕ → Settings
 settings_after before s = settings_or before (read_sheet s).check (read_sheet s).settings

@@ -1,12 +1,12 @@
-// The reading of a sheet by the library, by value: what it answers, in numbers, with the settings that a caller is to be left.
+// What the library's reading of a sheet answers, in numbers.
 #![tactic(auto)]
 
-ghost use Rattle.std.specs.Prelude.{◌≡◌};
+ghost use Rattle.std.specs.Prelude.{◌≡◌, ◌≤◌, length};
 ghost use Rattle.rules.specs.Sheets.{read_sheet};
+ghost use Rattle.sheet.specs.Outcomes.{Gives};
 ghost use Rattle.sheetcalls.specs.SheetAnswers.{sheet_answer};
 
-use numbers::number_of;
-use rules::{Settings, SettingsCheck};
+use sheet::{SheetOutcome, part_from};
 
 // What reading a sheet answers: 0 and 0, or the refusal's number and its sheet line from 1; and where in the caller's own bytes the part
 // handed back begins, and its length.
@@ -19,41 +19,20 @@ pub struct SheetAnswer {
     pub length: usize,
 }
 
-// The answer of a sheet, with the settings beside it.
-#[derive(Clone, Copy)]
-pub struct SheetCall {
-    pub settings: Settings,
-    pub answer: SheetAnswer,
-}
-
-// The sheet at the front of lent bytes.
-pub fn sheet_call(bytes: &[u8]) -> SheetCall
-    ensures { (result.settings ≡ (read_sheet bytes.now).settings) × (result.answer ≡ sheet_answer bytes.now) }
+// The answer of an outcome of reading these bytes, in numbers.
+pub fn answer_of(bytes: &[u8], outcome: SheetOutcome) -> SheetAnswer
+    requires { (Gives outcome (read_sheet bytes.now)) × (outcome.start ≤ length bytes.now) }
+    ensures { result ≡ sheet_answer bytes.now }
 {
-    let outcome = sheet::read(bytes);
-    let check = outcome.check;
-    let start = outcome.start;
-    let settings = outcome.settings;
-    let part = sheet::part_from(bytes, check, start);
-    let length = part.len();
-    match check {
-        SettingsCheck::Accepted => SheetCall {
-            settings,
-            answer: SheetAnswer {
-                number: 0,
-                line: 0,
-                start,
-                length,
-            },
-        },
-        SettingsCheck::Refused(cause, line) => SheetCall {
-            settings,
-            answer: SheetAnswer {
-                number: number_of(cause),
-                line: line as u32,
-                start,
-                length,
-            },
-        },
+    let part = part_from(bytes, outcome.check, outcome.start);
+    let (number, line) = match outcome.check {
+        Ok(()) => (0, 0),
+        Err(why) => (u32::from(why.cause), u32::from(why.line)),
+    };
+    SheetAnswer {
+        number,
+        line,
+        start: outcome.start,
+        length: part.len(),
     }
 }

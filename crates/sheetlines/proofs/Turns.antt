@@ -1,7 +1,8 @@
 -- The sheet's lines of a block: one line more.
 -- Assumes nothing.
+use Rattle.std.specs.Prelude.{Ok, Err, is_err}
 use mathlib.Core.Path.{◌≡◌, refl, sym, ap, ◌∙◌, subst}
-use mathlib.Core.Bool.{Bool, true, false}
+use mathlib.Core.Bool.{Bool, true, false, false≢true}
 use mathlib.Core.List.{List, []}
 use Prim.Native.Nat.{ℕ, ◌+◌, ◌-◌, ◌≤◌, ◌<◌}
 use native.Mathlib.Omega.{arith}
@@ -14,7 +15,7 @@ use Rattle.rules.specs.Regions.{our_equipment}
 use Rattle.rules.specs.Text.{first_line, has_feed, after_line}
 use Rattle.rules.specs.Transcripts.{lines_in}
 use Rattle.rules.specs.declared.Refusal.{Refusal}
-use Rattle.rules.specs.declared.SettingsCheck.{SettingsCheck}
+use Rattle.rules.specs.Answers.{SettingsCheck, settings_refused}
 use Rattle.text.proofs.Lines.{line-take, line_after, line-ended}
 use Rattle.program.specs.States.{is_done, Fit}
 use Rattle.program.specs.Saying.{Said, sheet_line, said}
@@ -46,6 +47,10 @@ line-lent s at end p =
     let n : end - at ≡ length (first_line (drop at s)) = omega arith in
     ap (λ (k : ℕ). take k (drop at s)) n ∙ line-take (drop at s)
 
+pub not-err : (c : SettingsCheck) → is_err c ≡ false → c ≡ Ok tt
+not-err (Ok ok) e = refl
+not-err (Err away) e = absurd (false≢true (sym e))
+
 module _ (q : State) (s : List ℕ) (state : State) (at end : ℕ) (going : Going q s state at) (sheet : state.stage ≡ 0)
     (place : end ≡ at + length (first_line (drop at s))) (ended : ltb end (length s) ≡ has_feed (drop at s)) where
   busy : is_done state ≡ false
@@ -55,7 +60,7 @@ module _ (q : State) (s : List ℕ) (state : State) (at end : ℕ) (going : Goin
   no-feed h = sym ended ∙ le-ltb end (length s) h
 
   -- where no line feed is left
-  pub waits : length s ≤ end → SheetSaid q s (record { state = state; at = at; check = SettingsCheck.Accepted })
+  pub waits : length s ≤ end → SheetSaid q s (record { state = state; at = at; check = Ok tt })
   waits h = record { stands = going.stands; same = going.same; stuck = λ p. no-feed h }
 
   pub fit_line : end < length s → Fit state (length (take (end - at) (drop at s)) + 1)
@@ -90,20 +95,19 @@ module _ (q : State) (s : List ℕ) (state : State) (at end : ℕ) (going : Goin
         ∙ handled-fed e ends size (record { state = state; text = [] }) (drop at s) fed
         ∙ rw (busy, le-ltb size line_room r, said-is e, after-place s at fed, p)
 
-    pub refused : (cause : Refusal) (n : ℕ) → check ≡ SettingsCheck.Refused cause n → next.stage ≡ 2
-        → SheetSaid q s (record { state = next; at = end + 1; check = check })
-    refused cause n c two =
+    pub refused : next.stage ≡ 2 → SheetSaid q s (record { state = next; at = end + 1; check = check })
+    refused two =
         record {
           stands = step-stands;
           same = step_same;
           stuck = λ p. let z = eqb-true next.stage 0 p in absurd (omega arith);
         }
 
-    pub goes_on : check ≡ SettingsCheck.Accepted → Going q s next (end + 1)
+    pub goes_on : check ≡ Ok tt → Going q s next (end + 1)
     goes_on c =
         record { stands = step-stands; same = λ e size r ends. step_same e size r ends ∙ rw c }
 
 pub past : (q : State) (s : List ℕ) (state : State) (at : ℕ) → Going q s state at → (state.stage ≡ 0 → ⊥)
-    → SheetSaid q s (record { state = state; at = at; check = SettingsCheck.Accepted })
+    → SheetSaid q s (record { state = state; at = at; check = Ok tt })
 past q s state at going other =
     record { stands = going.stands; same = going.same; stuck = λ p. absurd (other (eqb-true state.stage 0 p)) }

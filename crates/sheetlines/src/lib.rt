@@ -1,9 +1,7 @@
 // The sheet's lines of a block.
 #![tactic(auto)]
 
-ghost use Rattle.std.specs.Prelude.{◌≡◌, ℕ, ◌+◌, ◌<◌, length};
-ghost use Rattle.rules.specs.declared.Refusal.{Refusal};
-ghost use Rattle.rules.specs.declared.SettingsCheck.{SettingsCheck};
+ghost use Rattle.std.specs.Prelude.{◌≡◌, ◌+◌, ◌<◌, length, IsErr};
 ghost use Rattle.formats.specs.Marks.{form_at};
 ghost use Rattle.sheet.specs.LineReads.{on_line};
 ghost use Rattle.program.specs.States.{Fit};
@@ -13,8 +11,8 @@ ghost use Rattle.sheetlines.specs.SheetSaid.{SheetSaid};
 ghost use Rattle.rules.specs.Settings.{sheet_lines};
 
 use program::State;
-use rules::{Refusal, SHEET_LINES, Settings, SettingsCheck};
-use sheet::{LineRead, read_line};
+use rules::{SHEET_LINES, Settings, SettingsCheck};
+use sheet::{LineRead, formless, read_line};
 use states::stop;
 use text::line_end;
 
@@ -24,10 +22,7 @@ fn read_whole(overlong: bool, i: usize, line: &[u8], before: Settings) -> LineRe
     ensures { result ≡ on_line i before (line_numbers overlong (form_at i) line.now) }
 {
     if overlong {
-        return LineRead {
-            check: SettingsCheck::Refused(Refusal::Form, (i + 1) as u8),
-            settings: before,
-        };
+        return Err(formless(i));
     }
     read_line(i, line, before)
 }
@@ -48,31 +43,25 @@ pub struct SheetLine {
 fn sheet_line(q: State, line: &[u8]) -> SheetLine
     requires { (q.stage ≡ 0) × (Fit q (length line.now + 1)) }
     ensures line_value { sheet_line q line.now ≡ record { state = result.state; text = check_text result.check } }
-    ensures stage_value { (cause : Refusal) (n : ℕ) → result.check ≡ SettingsCheck.Refused cause n → result.state.stage ≡ 2 }
+    ensures stage_value { IsErr result.check → result.state.stage ≡ 2 }
 {
     let n = line.len() as u64 + 1;
-    let number = q.line;
-    let before = q.settings;
-    let board = q.board;
-    let read = read_whole(q.overlong, (number - 1) as usize, line, before);
-    let check = read.check;
-    match check {
-        SettingsCheck::Refused(_, _) => SheetLine {
+    match read_whole(q.overlong, (q.line - 1) as usize, line, q.settings) {
+        Err(why) => SheetLine {
             state: stop(q, n),
-            check,
+            check: Err(why),
         },
-        SettingsCheck::Accepted => {
-            let settings = read.settings;
-            let state = State {
-                stage: stage_after(number),
-                line: number + 1,
+        Ok(settings) => SheetLine {
+            state: State {
+                stage: stage_after(q.line),
+                line: q.line + 1,
                 overlong: false,
                 taken: q.taken + n,
                 settings,
-                board,
-            };
-            SheetLine { state, check }
-        }
+                ..q
+            },
+            check: Ok(()),
+        },
     }
 }
 
@@ -97,23 +86,23 @@ pub fn sheet_lines(q: State, s: &[u8]) -> SheetLines
             return SheetLines {
                 state,
                 at,
-                check: SettingsCheck::Accepted,
+                check: Ok(()),
             };
         }
         let r = sheet_line(state, &s[at..end]);
-        let check = r.check;
         state = r.state;
         at = end + 1;
-        match check {
-            SettingsCheck::Accepted => {}
-            SettingsCheck::Refused(_, _) => {
-                return SheetLines { state, at, check };
-            }
+        if r.check.is_err() {
+            return SheetLines {
+                state,
+                at,
+                check: r.check,
+            };
         }
     }
     SheetLines {
         state,
         at,
-        check: SettingsCheck::Accepted,
+        check: Ok(()),
     }
 }

@@ -13,7 +13,7 @@ ghost use Rattle.program.specs.Responses.{line_room};
 use handling::sample_lines::sample_lines;
 use lines::put_refused;
 use program::State;
-use rules::{LINE_ROOM, SettingsCheck, refusal_number};
+use rules::{LINE_ROOM, refusal_number};
 use sensing::table;
 use sheetlines::sheet_lines;
 use states::Handled;
@@ -30,13 +30,18 @@ fn on_sheet(q: State, s: &[u8], out: &mut [u8]) -> Handled
     let at = r.at;
     let check = r.check;
     match check {
-        SettingsCheck::Accepted => Handled {
+        Ok(()) => Handled {
             state,
             at,
             written: 0,
         },
-        SettingsCheck::Refused(cause, line) => {
-            let written = put_refused(out, 0, refusal_number(cause), line as u64);
+        Err(refused) => {
+            let written = put_refused(
+                out,
+                0,
+                refusal_number(refused.cause),
+                u64::from(refused.line),
+            );
             Handled { state, at, written }
         }
     }

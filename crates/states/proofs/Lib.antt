@@ -1,4 +1,2 @@
-pub mod Tests
 pub mod Buffers
 pub mod Places
-pub mod Moving

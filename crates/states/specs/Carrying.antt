@@ -1,11 +1,11 @@
 -- Spec 10.13: each part of handling a block carries a state from one place of a block to another, and what is said from either is the same.
 -- Assumes nothing.
-use Rattle.std.specs.Prelude.{◌≡◌, Bool, false, List, [], ◌++◌, ℕ, ◌+◌, ◌-◌, ◌≤◌, length, drop}
+use Rattle.std.specs.Prelude.{◌≡◌, Bool, false, List, [], ◌++◌, ℕ, ◌+◌, ◌-◌, ◌≤◌, length, drop, Ok, Err}
 use Rattle.rules.specs.Samples.{Equipment}
 use Rattle.rules.specs.Text.{has_feed}
 use Rattle.rules.specs.Refusals.{refusal_number}
 use Rattle.rules.specs.Transcripts.{lines_in, refused_line}
-use Rattle.rules.specs.declared.SettingsCheck.{SettingsCheck}
+use Rattle.rules.specs.Answers.{SettingsCheck}
 use Rattle.buffers.specs.Written.{Wrote}
 use Rattle.program.specs.States.{is_done, Fit}
 use Rattle.program.specs.Responses.{line_room, handled}
@@ -14,8 +14,8 @@ use Rattle.states.specs.declared.Handled.{Handled}
 
 -- what a refused sheet line writes; an accepted one writes nothing
 abbrev pub check_text : SettingsCheck → List ℕ
-check_text SettingsCheck.Accepted = []
-check_text (SettingsCheck.Refused cause line) = refused_line (refusal_number cause) line
+check_text (Ok ok) = []
+check_text (Err away) = refused_line (refusal_number away.cause) away.line
 
 -- r stands at a place of a block s, and q at one before it
 pub record Stands (s : List ℕ) (q : State) (at₀ : ℕ) (r : State) (at : ℕ) : Type 0 where

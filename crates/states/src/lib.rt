@@ -1,7 +1,7 @@
 // The program's state: how a lent one is read, and where it ends; and the bytes of a block that are left, moved to the front of its buffer.
 #![tactic(auto)]
 
-ghost use Rattle.std.specs.Prelude.{◌≡◌, ◌&&◌, ◌||◌, [], ◌+◌, ◌-◌, ◌≤◌, ◌<◌, min, ltb, length, take, drop};
+ghost use Rattle.std.specs.Prelude.{◌≡◌, ◌&&◌, [], ◌+◌, ◌-◌, ◌≤◌, ◌<◌, min, ltb, length, take, drop};
 ghost use Rattle.rules.specs.Records.{fresh};
 ghost use Rattle.rules.specs.Sheets.{settings_of};
 ghost use Rattle.rules.specs.Transcripts.{input_end};
@@ -19,26 +19,15 @@ pub struct Handled {
     pub written: usize,
 }
 
-pub fn either(a: bool, b: bool) -> bool
-    ensures { result ≡ (a || b) }
-{
-    if a { true } else { b }
-}
-
-pub fn both(a: bool, b: bool) -> bool
-    ensures { result ≡ (a && b) }
-{
-    if a { b } else { false }
-}
-
 // A turn that goes on, and took some bytes, is followed by another.
 pub fn goes_on(going: bool, taken: usize) -> bool
     ensures { result ≡ (going && ltb 0 taken) }
 {
-    both(going, 0 < taken)
+    going && 0 < taken
 }
 
 // Before the first byte, with the settings and the board that a program begins with.
+#[tactic(auto, unfolding(program::specs::States::start))]
 pub fn start(settings: Settings, board: Board) -> State
     requires { (settings ≡ settings_of []) × (board ≡ fresh) }
     ensures { result ≡ start }
@@ -54,24 +43,14 @@ pub fn start(settings: Settings, board: Board) -> State
 }
 
 // Its counts pass a test that those of every state that some input leads to pass.
+#[tactic(auto, unfolding(program::specs::States::sensible))]
 pub fn sensible(q: State) -> bool
     ensures { result ≡ sensible q }
 {
-    let line = q.line;
-    let taken = q.taken;
-    if line < 1 {
-        return false;
-    }
-    if 1000000000000 < taken {
-        return false;
-    }
-    if taken + 1 < line {
-        return false;
-    }
-    if q.stage == 0 {
-        return line <= SHEET_LINES as u64;
-    }
-    true
+    1 <= q.line
+        && q.taken <= 1000000000000
+        && q.line <= q.taken + 1
+        && (q.stage != 0 || q.line <= SHEET_LINES as u64)
 }
 
 // All is done, with n bytes more taken.
@@ -79,15 +58,11 @@ pub fn stop(q: State, n: u64) -> State
     requires { q.taken + n < 18446744073709551616 }
     ensures { result ≡ stopped q n }
 {
-    let settings = q.settings;
-    let board = q.board;
     State {
         stage: 2,
-        line: q.line,
         overlong: false,
         taken: q.taken + n,
-        settings,
-        board,
+        ..q
     }
 }
 
@@ -103,11 +78,7 @@ pub fn budget(q: State) -> u64
 pub fn within_budget(bytes: usize, budget: u64) -> usize
     ensures { result ≡ min budget bytes }
 {
-    if (bytes as u64) < budget {
-        bytes
-    } else {
-        budget as usize
-    }
+    (bytes as u64).min(budget) as usize
 }
 
 // The bytes from a place up to an end go to the front.
@@ -115,11 +86,6 @@ pub fn to_front(buf: &mut [u8], from: usize, end: usize) -> usize
     requires { (from ≤ end) × (end ≤ length buf.old) }
     ensures { (result ≡ end - from) × (take result buf.new ≡ take result (drop from buf.old)) }
 {
-    let n = end - from;
-    let mut i = 0;
-    while i < n {
-        buf[i] = buf[from + i];
-        i += 1;
-    }
-    n
+    buf.copy_within(from..end, 0);
+    end - from
 }

@@ -1,43 +1,13 @@
--- The first limit's place, read off the nine bits as one number, is that of the first bit of the list.
+-- The first limit's place, read off the nine bits as one number: how many zeros lead it in sixteen binary digits.
 -- Assumes nothing.
-use mathlib.Core.Path.{◌≡◌, refl, sym, ap, subst, ◌∙◌}
-use mathlib.Core.Bool.{Bool, true, false, cond}
-use mathlib.Core.List.{List, [], ◌∷◌, ◌++◌, append_assoc}
-use Prim.Native.Nat.{ℕ, suc, ◌+◌, ◌*◌, ◌-◌, ◌^◌, ◌≤◌, ◌<◌}
+use Rattle.std.proofs.Common.{◌≡◌, refl, sym, ◌∙◌, Bool, true, false, cond, List, [], ◌∷◌, ◌++◌, length, ℕ, suc, ◌+◌, ◌*◌, ◌-◌, ◌^◌, ◌≤◌, ◌<◌, arith, length-append}
+use Rattle.std.specs.Int.Count.{count_leading_zeros, leading_unique, leading_of_zero}
 use native.Mathlib.Nat.{le_trans, mul_comm, mul_assoc, mul-le-mul_right, pow-suc}
-use native.Mathlib.Omega.{arith}
-use lib.Dec.{leb}
-use lib.ListN.{length, length-append}
-use borrow.Author.Tests.{le-leb, lt-leb}
 use Rattle.rules.specs.Reports.{packed_after}
-use Rattle.counters.proofs.Counting.{packed-last, packed-below}
+use Rattle.counters.proofs.Counting.{packed-below}
 use Rattle.statusrules.specs.StatusRules.{first_place}
-use Rattle.statusrules.specs.Places.{placed}
 
--- ---- one turn of the loop
-
-placed-step : (k i n : ℕ) → placed (suc k) i n ≡ cond (leb 256 n) i (placed k (suc i) (2 * n))
-unfolding placed
-placed-step k i n = refl
-
-pub placed-here : (place n : ℕ) → place < 9 → 256 ≤ n → placed (9 - place) place n ≡ place
-placed-here place n l h =
-    let left : 9 - place ≡ suc (9 - (place + 1)) = omega arith in
-    ap (λ (k : ℕ). placed k place n) left ∙ placed-step (9 - (place + 1)) place n ∙ rw (le-leb 256 n h) refl
-
-pub placed_on : (place n : ℕ) → place < 9 → n < 256 → placed (9 - (place + 1)) (place + 1) (2 * n) ≡ placed (9 - place) place n
-placed_on place n l h =
-    let left : 9 - place ≡ suc (9 - (place + 1)) = omega arith in
-    let more : place + 1 ≡ suc place = omega arith in
-    sym (ap (λ (k : ℕ). placed k place n) left ∙ placed-step (9 - (place + 1)) place n ∙ rw (lt-leb 256 n h)
-    (ap (λ (i : ℕ). placed (9 - (place + 1)) i (2 * n)) (sym more)))
-
-pub placed-none : (place n : ℕ) → 9 ≤ place → placed (9 - place) place n ≡ 0
-unfolding placed
-placed-none place n h = let left : 9 - place ≡ 0 = omega arith in ap (λ (k : ℕ). placed k place n) left
-
--- ---- the bits of a list
-
+-- bits put after a number do not make it less than shifted
 packed-low : (n : ℕ) (bs : List Bool) → n * 2 ^ length bs ≤ packed_after n bs
 packed-low n [] = omega arith
 packed-low n (b ∷ bs) =
@@ -48,26 +18,35 @@ packed-low n (b ∷ bs) =
     more true = omega arith
     more false = omega arith
 
--- the ninth bit is 1 exactly where the list of nine begins with 1
-begins-high : (bs : List Bool) → length bs ≡ 8 → 256 ≤ packed_after 1 bs
-begins-high bs l = subst (λ (k : ℕ). 1 * 2 ^ k ≤ packed_after 1 bs) l (packed-low 1 bs)
+-- what the zeros that lead the bits tell of the first place, that of the list's first bit being i
+pub record Leads (i place zeros : ℕ) : Type 0 where
+  pub from : 6 + i ≤ zeros
+  pub some : zeros ≤ 14 → zeros ≡ 6 + place
+  pub none : 15 ≤ zeros → place ≡ 0
 
-begins-low : (bs : List Bool) → length bs ≡ 8 → packed_after 0 bs < 256
-begins-low bs l = packed-below 8 0 bs (omega arith)
+-- a number whose highest digit is digit k
+digits : (k a : ℕ) → k < 16 → 2 ^ k ≤ a → a < 2 ^ suc k → 15 - k ≡ count_leading_zeros 16 a
+digits k a l low high = leading_unique 16 a (15 - k) (suc k) (omega arith) high (rw pow-suc (omega (arith, low)))
 
-placed-from : (bs tail : List Bool) (i : ℕ) → length bs + length tail ≡ 9 → placed (length bs) i (packed_after 0 (bs ++ tail)) ≡ first_place i bs
-unfolding placed
-placed-from [] tail i l = refl
-placed-from (true ∷ bs) tail i l = rw (le-leb 256 (packed_after 1 (bs ++ tail)) (begins-high (bs ++ tail) (length-append bs tail ∙ omega arith))) refl
-placed-from (false ∷ bs) tail i l =
-    let low = begins-low (bs ++ tail) (length-append bs tail ∙ omega arith) in
-    let up : 2 * packed_after 0 (bs ++ tail) ≡ packed_after 0 (bs ++ (tail ++ (false ∷ [])))
-    = sym (ap (packed_after 0) (sym (append_assoc bs tail (false ∷ []))) ∙ packed-last 0 (bs ++ tail) false ∙ omega arith) in
-    rw (lt-leb 256 (packed_after 0 (bs ++ tail)) low, up)
-    (placed-from bs (tail ++ (false ∷ [])) (suc i) (ap (λ (k : ℕ). length bs + k) (length-append tail (false ∷ [])) ∙ omega arith))
+leads : (i : ℕ) (bs : List Bool) (ready : Bool) → 1 ≤ i → i + length bs ≡ 9
+    → Leads i (first_place i bs) (count_leading_zeros 16 (packed_after 0 (bs ++ (ready ∷ []))))
+leads i [] true h l =
+    let one : 15 ≡ count_leading_zeros 16 1 = digits 0 1 (omega arith) (omega arith) (omega arith) in
+    record { from = omega (arith, one); some = λ low. absurd (omega (arith, one)); none = λ high. refl }
+leads i [] false h l =
+    let all : count_leading_zeros 16 0 ≡ 16 = leading_of_zero 16 in
+    record { from = omega (arith, all); some = λ low. absurd (omega (arith, all)); none = λ high. refl }
+leads i (false ∷ bs) ready h l =
+    let next = leads (suc i) bs ready (omega arith) (omega arith) in
+    record { from = omega (arith, next.from); some = next.some; none = next.none }
+leads i (true ∷ bs) ready h l =
+    let long : length (bs ++ (ready ∷ [])) ≡ 9 - i = length-append bs (ready ∷ []) ∙ omega arith in
+    let low : 2 ^ (9 - i) ≤ packed_after 1 (bs ++ (ready ∷ [])) = omega (arith, rw long at (packed-low 1 (bs ++ (ready ∷ [])))) in
+    let high : packed_after 1 (bs ++ (ready ∷ [])) < 2 ^ suc (9 - i) = rw pow-suc (omega (arith, packed-below (9 - i) 1 (bs ++ (ready ∷ [])) (omega (arith, long)))) in
+    let here = digits (9 - i) (packed_after 1 (bs ++ (ready ∷ []))) (omega arith) low high in
+    record { from = omega (arith, here); some = λ few. omega (arith, here); none = λ many. absurd (omega (arith, here)) }
 
 -- of the eight limits' bits and ready's
-pub placed_first : (bits : ℕ) (trips : List Bool) (ready : Bool) → length trips ≡ 8 → bits ≡ packed_after 0 (trips ++ (ready ∷ []))
-    → placed 8 1 bits ≡ first_place 1 trips
-placed_first bits trips ready l e =
-    ap (placed 8 1) e ∙ ap (λ (k : ℕ). placed k 1 (packed_after 0 (trips ++ (ready ∷ [])))) (sym l) ∙ placed-from trips (ready ∷ []) 1 (omega arith)
+pub leads-packed : (bits : ℕ) (trips : List Bool) (ready : Bool) → length trips ≡ 8 → bits ≡ packed_after 0 (trips ++ (ready ∷ []))
+    → Leads 1 (first_place 1 trips) (count_leading_zeros 16 bits)
+leads-packed bits trips ready eight e = rw e (leads 1 trips ready (omega arith) (omega arith))

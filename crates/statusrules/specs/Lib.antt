@@ -1,2 +1,1 @@
 pub mod StatusRules
-pub mod Places

@@ -7,48 +7,35 @@ ghost use Rattle.rules.specs.Regions.{voltage_region, worse};
 ghost use Rattle.rules.specs.Reports.{packed_after};
 ghost use Rattle.rules.specs.declared.Settings.{Settings};
 ghost use Rattle.readings.specs.Readings.{reading_of};
-ghost use Rattle.statusrules.specs.StatusRules.{first_worst, region_cause, status_rule};
-ghost use Rattle.statusrules.specs.Places.{placed};
+ghost use Rattle.statusrules.specs.StatusRules.{first_place, first_worst, region_cause, status_rule};
 
 use readings::reading::Reading;
 use reasons::StatusRule;
-use ridethrough::regions::{frequency_region, order, voltage_region};
+use ridethrough::regions::{frequency_region, voltage_region};
 use rules::Region;
 
-// Of nine bits, uv1's the highest: the place of the first limit in sheet order whose bit is 1, from 1; 0 where none is. The number is doubled
-// until a limit's bit has come up to uv1's, which counts 256.
+// Of nine bits, uv1's the highest and ready's the lowest: the place of the first limit in sheet order whose bit is 1, from 1; 0 where none is.
+// Seven of the sixteen binary digits stand before uv1's, fourteen before of2's.
 fn first_place(bits: u16) -> u8
-    ensures { result ≡ placed 8 1 bits }
+    ensures { (trips : List Bool) (ready : Bool) → length trips ≡ 8 → bits ≡ packed_after 0 (trips ++ (ready ∷ [])) → result ≡ first_place 1 trips }
 {
-    let mut left = bits;
-    let mut place = 1;
-    while place < 9 {
-        if 256 <= left {
-            return place;
-        }
-        left = 2 * left;
-        place = place + 1;
+    match bits.leading_zeros() {
+        zeros @ 7..=14 => (zeros - 6) as u8,
+        _ => 0,
     }
-    0
 }
 
 // What decides the region: the first of lowest voltage, highest voltage and frequency whose own region is the worst.
 fn region_cause(low: Region, high: Region, frequency: Region) -> StatusRule
     ensures { result ≡ first_worst (worse low (worse high frequency)) low high }
 {
-    let a = order(low);
-    let b = order(high);
-    let c = order(frequency);
-    if b <= a {
-        if c <= a {
-            return StatusRule::LowestVoltage;
-        }
-        return StatusRule::Frequency;
+    if high <= low && frequency <= low {
+        StatusRule::LowestVoltage
+    } else if frequency <= high {
+        StatusRule::HighestVoltage
+    } else {
+        StatusRule::Frequency
     }
-    if c <= b {
-        return StatusRule::HighestVoltage;
-    }
-    StatusRule::Frequency
 }
 
 // The rule of a step, from: in service before and after it, the nine bits, and what is read from its sample.

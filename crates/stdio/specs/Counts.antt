@@ -1,8 +1,7 @@
 -- Spec 10.9, 10.12: how far reading and writing are, and what stands before each read and each write: a session of `respond`
 -- (program/specs/Standing.antt) where the program is. Which bytes a read and a write move stands in Moves.antt.
 -- Assumes nothing.
-use Rattle.std.specs.Prelude.{◌≡◌, Bool, true, false, List, ℕ, ◌+◌, ◌-◌, min, ℤ, pos, negsuc, eqb, length}
-use Rattle.std.specs.Int.Signed.{lt_z}
+use Rattle.std.specs.Prelude.{◌≡◌, Bool, true, false, List, ℕ, ◌+◌, ◌-◌, min, eqb, length, Option, Some, None, is_none}
 use Rattle.rules.specs.Samples.{Equipment}
 use Rattle.rules.specs.Text.{has_feed}
 use Rattle.rules.specs.Transcripts.{input_end}
@@ -16,16 +15,16 @@ use Rattle.stdio.specs.declared.Handed.{Handed}
 
 -- spec 10.9: before the first read, 10^12 bytes may be read
 abbrev pub unread : Input
-unread = record { budget = input_end; asked = 0; answer = pos 0; bytes = 0 }
+unread = record { budget = input_end; asked = 0; answer = Some 0; bytes = 0 }
 
 -- how many bytes came by a read that was answered so: none where it failed, and else as many as it says, and no more than were asked for
-abbrev pub clamp_len : ℤ → ℕ → ℕ
-clamp_len (pos k) most = min k most
-clamp_len (negsuc k) most = 0
+abbrev pub clamp_len : Option ℕ → ℕ → ℕ
+clamp_len (Some k) most = min k most
+clamp_len None most = 0
 
 -- after a read to a place behind which there is this room, which was answered a: as many bytes were asked for as there is room for and may
 -- be read; as many came as the answer says, and no more than were asked for
-abbrev pub read_after : Input → ℕ → ℤ → Input
+abbrev pub read_after : Input → ℕ → Option ℕ → Input
 read_after i room a =
     record {
       budget = i.budget - clamp_len a (min i.budget room);
@@ -34,9 +33,9 @@ read_after i room a =
       bytes = clamp_len a (min i.budget room);
     }
 
--- spec 10.12: a negative answer is a failure; any other that brings no bytes, where some were asked for, is the input's end
+-- spec 10.12: a read without an answer failed; any other that brings no bytes, where some were asked for, is the input's end
 abbrev pub read_failed : Input → Bool
-read_failed i = lt_z i.answer (pos 0)
+read_failed i = is_none i.answer
 
 -- a read that went well and brought none: the input has ended, or all 10^12 bytes have come
 abbrev pub read_ended : Input → Bool

@@ -14,12 +14,12 @@ use states::within_budget;
 use std::io::{Read, Write};
 
 // How far the reading is: how many bytes may still be read (spec 10.9), and of the last read how many bytes it asked for, what it
-// answered (how many bytes it put into the buffer, and -1 where it failed), and how many bytes came.
+// answered (how many bytes it put into the buffer, or none where it failed), and how many bytes came.
 #[derive(Clone, Copy)]
 pub struct Input {
     budget: u64,
     asked: usize,
-    answer: isize,
+    answer: Option<usize>,
     bytes: usize,
 }
 
@@ -38,7 +38,7 @@ impl Input {
         Self {
             budget: 1000000000000,
             asked: 0,
-            answer: 0,
+            answer: Some(0),
             bytes: 0,
         }
     }
@@ -52,16 +52,14 @@ impl Input {
     pub fn failed(self) -> bool
         ensures { result ≡ read_failed self }
     {
-        let answer = self.answer;
-        answer < 0
+        self.answer.is_none()
     }
 
     // The read brought nothing: where it went well, the input has ended.
     pub fn ended(self) -> bool
         ensures { result ≡ read_ended self }
     {
-        let bytes = self.bytes;
-        bytes == 0
+        self.bytes == 0
     }
 }
 
@@ -98,16 +96,11 @@ pub fn read_to<R: Read>(
     ensures buf_unchanged { take have buf.new ≡ take have buf.old }
     ensures came { Came result (R.remaining from.old) (R.remaining from.new) (take result.bytes (drop have buf.new)) }
 {
-    let budget = before.budget;
-    let asked = within_budget(buf.len() - have, budget);
-    let end = have + asked;
-    let (answer, bytes) = match from.read(&mut buf[have..end]) {
-        Ok(n) => (n as isize, n),
-        Err(_) => (-1, 0),
-    };
-    let left = budget - bytes as u64;
+    let asked = within_budget(buf.len() - have, before.budget);
+    let answer = from.read(&mut buf[have..have + asked]).ok();
+    let bytes = answer.unwrap_or(0);
     Input {
-        budget: left,
+        budget: before.budget - bytes as u64,
         asked,
         answer,
         bytes,

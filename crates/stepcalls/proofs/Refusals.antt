@@ -1,5 +1,6 @@
 -- Demand 1 of a step: it is refused with the first cause in the order of spec 11.2, and a refused one leaves what was lent to it as it was.
 -- Assumes nothing.
+use Rattle.std.specs.Prelude.{Ok, Err}
 use mathlib.Core.Path.{◌≡◌, refl}
 use mathlib.Core.List.{◌++◌}
 use Prim.Native.Nat.{◌<◌}
@@ -9,7 +10,7 @@ use Rattle.rules.specs.Refusals.{answer_number}
 use Rattle.rules.specs.Records.{step_of}
 use Rattle.rules.specs.declared.Board.{Board}
 use Rattle.rules.specs.declared.Report.{Report}
-use Rattle.rules.specs.declared.Answer.{Answer}
+use Rattle.rules.specs.Answers.{Answer}
 use Rattle.rules.specs.declared.Settings.{Settings}
 use Rattle.causes.specs.FirstCause.{first, settings_causes, sample_causes}
 use Rattle.laws.proofs.FirstCause.{refuses-rightly}
@@ -31,8 +32,8 @@ module _ (e : Equipment) (b : Board) (s : Settings) (x : Slice) where
   report-kept before h = by (step_of e b s x).answer h
     where
       by : (a : Answer) → 0 < answer_number a → report_or before a ≡ before
-      by (Answer.Reported r) k = absurd (omega (arith, k))
-      by (Answer.Refused cause) k = refl
+      by (Ok r) k = absurd (omega (arith, k))
+      by (Err cause) k = refl
 
 pub step-refuses : (e : Equipment) → StepRefuses e
 step-refuses e = record { number = step-cause e; record-kept = record-kept e; report-kept = report-kept e; explained-kept = explained-untouched e }

@@ -1,75 +1,64 @@
--- What an exported step stores, from what the step by value says: all of it where its number is 0, and nothing else.
+-- What an exported step leaves, from what the step by value says: its record and its report where it is not refused, and nothing else.
 -- Assumes nothing.
-use mathlib.Core.Path.{◌≡◌, refl, sym, ◌∙◌, subst}
+use Rattle.std.specs.Prelude.{Ok, Err}
+use mathlib.Core.Path.{◌≡◌, sym, ap, ◌∙◌, subst}
 use Prim.Native.Nat.{ℕ, ◌<◌}
-use native.Mathlib.Omega.{arith}
 use Rattle.rules.specs.Samples.{Slice}
 use Rattle.rules.specs.Regions.{our_equipment}
-use Rattle.rules.specs.Refusals.{answer_number}
+use Rattle.rules.specs.Refusals.{refusal_number, answer_number}
 use Rattle.rules.specs.Records.{step_of}
 use Rattle.rules.specs.declared.Board.{Board}
 use Rattle.rules.specs.declared.Report.{Report}
-use Rattle.rules.specs.declared.Answer.{Answer}
+use Rattle.rules.specs.declared.Refusal.{Refusal}
+use Rattle.rules.specs.Answers.{Answer}
+use Rattle.rules.specs.declared.Stepped.{Stepped}
 use Rattle.rules.specs.declared.Settings.{Settings}
-use Rattle.causes.specs.Calls.{fresh_report}
 use Rattle.basics.proofs.Refusals.{number-bounds}
-use Rattle.stepcalls.specs.StepAnswers.{record_after, report_after, report_or, step_number, report_after_by, step_number_by, StepLeaves}
-use Rattle.stepcalls.specs.ExplainedCalls.{explained_fresh, explained_after, ExplainedLeaves}
-use Rattle.stepcalls.specs.declared.StepCall.{StepCall}
+use Rattle.explain.specs.Numbers.{explained_number}
+use Rattle.explain.specs.Explained.{explained_step}
+use Rattle.explain.specs.Answers.{ExplainedAnswer}
+use Rattle.explain.specs.declared.ExplainedReport.{ExplainedReport}
+use Rattle.explain.specs.declared.ExplainedStep.{ExplainedStep}
+use Rattle.stepcalls.specs.StepAnswers.{report_or, step_number, record_after_by, report_after_by, step_number_by, StepLeaves}
+use Rattle.stepcalls.specs.ExplainedCalls.{in_numbers, explained_or, explained_after_by, ExplainedLeaves}
 use Rattle.stepcalls.specs.declared.Explained.{Explained}
-use Rattle.stepcalls.specs.declared.ExplainedCall.{ExplainedCall}
-use Rattle.stepcalls.proofs.Refusals.{record-kept, report-kept}
-use Rattle.stepcalls.proofs.Explaining.{explained-whichever, explained-untouched}
-
--- ---- a step
-
--- what is stored beside the record, whatever it is: `after` it from what stood there, and `none` which a refused call by value has
-module _ {R : Type 0} (b : Board) (s : Settings) (x : Slice) (after : R → R) (none : R) where
-  -- what the step by value says of its result
-  abbrev pub Says : Board → R → ℕ → Type 0
-  Says b' r n = (b' ≡ record_after b s x) × (r ≡ after none) × (n ≡ step_number b s x)
-
-  -- what is promised of what is lent, and of the number
-  abbrev pub Leaves : R → Board → R → ℕ → Type 0
-  Leaves before b' r n = (b' ≡ record_after b s x) × (r ≡ after before) × (n ≡ step_number b s x)
-
-  stored : (before : R) (b' : Board) (r : R) (n : ℕ) → (step_number b s x ≡ 0 → after none ≡ after before) → Says b' r n → n ≡ 0 → Leaves before b' r 0
-  stored before b' r n whichever says zero = (says.0, says.1 ∙ whichever (sym says.2 ∙ zero), sym zero ∙ says.2)
-
-  left_alone : (before : R) (b' : Board) (r : R) (n : ℕ) → (0 < step_number b s x → after before ≡ before) → Says b' r n → 0 < n → Leaves before b before n
-  left_alone before b' r n kept says refused =
-      let numbered : 0 < step_number b s x = subst (λ (m : ℕ). 0 < m) says.2 refused in
-      (sym (record-kept our_equipment b s x numbered), sym (kept numbered), says.2)
+use Rattle.stepcalls.proofs.Refusals.{record-kept}
+use Rattle.stepcalls.proofs.Explaining.{number_is}
 
 module _ (b : Board) (s : Settings) (x : Slice) where
-  abbrev pub StepSays : StepCall → Type 0
-  StepSays r = Says b s x (λ before. report_after before b s x) fresh_report r.board r.report r.number
+  -- a refused step is numbered, and so leaves the record
+  kept : (cause : Refusal) → refusal_number cause ≡ step_number b s x → b ≡ record_after_by our_equipment b s x
+  kept cause e = sym (record-kept our_equipment b s x (subst (λ (n : ℕ). 0 < n) e (number-bounds cause).0))
 
-  -- a report does not depend on the one before
-  whichever : (before : Report) → step_number b s x ≡ 0 → report_after fresh_report b s x ≡ report_after before b s x
-  unfolding step_number_by report_after_by
-  whichever before = by (step_of our_equipment b s x).answer
-    where
-      by : (a : Answer) → answer_number a ≡ 0 → report_or fresh_report a ≡ report_or before a
-      by (Answer.Reported r) h = refl
-      by (Answer.Refused cause) h = absurd (omega (arith, h, (number-bounds cause).0))
+  -- ---- a step
 
-  pub step-stored : (before : Report) (r : StepCall) → StepSays r → r.number ≡ 0 → StepLeaves b s x before r.board r.report 0
-  step-stored before r = stored b s x (λ k. report_after k b s x) fresh_report before r.board r.report r.number (whichever before)
+  module _ (t : Stepped) (e : t ≡ step_of our_equipment b s x) (before : Report) where
+    answered : (a : Answer) → t.answer ≡ a → (report_or before a ≡ report_after_by our_equipment before b s x) × (answer_number a ≡ step_number b s x)
+    unfolding report_after_by step_number_by
+    answered a told =
+        let same : a ≡ (step_of our_equipment b s x).answer = sym told ∙ ap (λ (u : Stepped). u.answer) e in
+        (ap (report_or before) same, ap answer_number same)
 
-  pub step_kept : (before : Report) (r : StepCall) → StepSays r → 0 < r.number → StepLeaves b s x before b before r.number
-  step_kept before r = left_alone b s x (λ k. report_after k b s x) fresh_report before r.board r.report r.number (report-kept our_equipment b s x before)
+    pub step-stored : (r : Report) → t.answer ≡ Ok r → StepLeaves b s x before t.board r 0
+    unfolding record_after_by
+    step-stored r told = let all = answered (Ok r) told in (ap (λ (u : Stepped). u.board) e, all.0, all.1)
 
--- ---- a step with its rules
+    pub step-kept : (cause : Refusal) → t.answer ≡ Err cause → StepLeaves b s x before b before (refusal_number cause)
+    step-kept cause told = let all = answered (Err cause) told in (kept cause all.1, all.0, all.1)
 
-module _ (b : Board) (s : Settings) (x : Slice) where
-  abbrev pub ExplainedSays : ExplainedCall → Type 0
-  ExplainedSays r = Says b s x (λ before. explained_after before b s x) explained_fresh r.board r.explained r.number
+  -- ---- a step with its rules
 
-  pub explained-stored : (before : Explained) (r : ExplainedCall) → ExplainedSays r → r.number ≡ 0 → ExplainedLeaves b s x before r.board r.explained 0
-  explained-stored before r =
-      stored b s x (λ k. explained_after k b s x) explained_fresh before r.board r.explained r.number (explained-whichever our_equipment b s x before)
+  module _ (t : ExplainedStep) (e : t ≡ explained_step our_equipment b s x) (before : Explained) where
+    explained : (a : ExplainedAnswer) → t.answer ≡ a
+        → (explained_or before a ≡ explained_after_by our_equipment before b s x) × (explained_number a ≡ step_number b s x)
+    unfolding explained_after_by
+    explained a told =
+        let same : a ≡ (explained_step our_equipment b s x).answer = sym told ∙ ap (λ (u : ExplainedStep). u.answer) e in
+        (ap (explained_or before) same, ap explained_number same ∙ number_is our_equipment b s x)
 
-  pub explained-kept : (before : Explained) (r : ExplainedCall) → ExplainedSays r → 0 < r.number → ExplainedLeaves b s x before b before r.number
-  explained-kept before r =
-      left_alone b s x (λ k. explained_after k b s x) explained_fresh before r.board r.explained r.number (explained-untouched our_equipment b s x before)
+    pub explained-stored : (g : ExplainedReport) → t.answer ≡ Ok g → ExplainedLeaves b s x before t.board (in_numbers g.report g.status g.watts) 0
+    unfolding record_after_by explained_step
+    explained-stored g told = let all = explained (Ok g) told in (ap (λ (u : ExplainedStep). u.board) e, all.0, all.1)
+
+    pub explained-kept : (cause : Refusal) → t.answer ≡ Err cause → ExplainedLeaves b s x before b before (refusal_number cause)
+    explained-kept cause told = let all = explained (Err cause) told in (kept cause all.1, all.0, all.1)

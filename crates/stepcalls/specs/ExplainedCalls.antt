@@ -1,6 +1,6 @@
 -- Spec 8.5 to 8.8, 11.4: a report with the rules that held it as the calls of the C boundary give it: in numbers.
 -- Assumes nothing.
-use Rattle.std.specs.Prelude.{◌≡◌, ℕ}
+use Rattle.std.specs.Prelude.{◌≡◌, ℕ, Ok, Err}
 use Rattle.rules.specs.Samples.{Slice, Equipment}
 use Rattle.rules.specs.Regions.{our_equipment}
 use Rattle.rules.specs.declared.Board.{Board}
@@ -10,7 +10,7 @@ use Rattle.reasons.specs.Numbers.{status_rule_number, limit_place, watts_rule_nu
 use Rattle.explain.specs.Explained.{explained_step}
 use Rattle.reasons.specs.declared.StatusRule.{StatusRule}
 use Rattle.reasons.specs.declared.WattsRule.{WattsRule}
-use Rattle.explain.specs.declared.ExplainedAnswer.{ExplainedAnswer}
+use Rattle.explain.specs.Answers.{ExplainedAnswer}
 use Rattle.causes.specs.Calls.{fresh_report}
 use Rattle.stepcalls.specs.StepAnswers.{record_after, step_number}
 use Rattle.stepcalls.specs.declared.Explained.{Explained}
@@ -22,8 +22,8 @@ in_numbers report status watts =
 
 -- those of an answer are stored; a refused call has none and changes nothing
 abbrev pub explained_or : Explained → ExplainedAnswer → Explained
-explained_or before (ExplainedAnswer.Reported report status watts) = in_numbers report status watts
-explained_or before (ExplainedAnswer.Refused cause) = before
+explained_or before (Ok given) = in_numbers given.report given.status given.watts
+explained_or before (Err cause) = before
 
 -- before any sample
 abbrev pub explained_fresh : Explained

@@ -1,14 +1,14 @@
 -- Spec 5.6, 11.3, 11.4: what a step called over the C boundary answers and leaves in lent memory, from the rules' step: with an equipment, and
 -- with ours.
 -- Assumes nothing.
-use Rattle.std.specs.Prelude.{◌≡◌, ℕ}
+use Rattle.std.specs.Prelude.{◌≡◌, ℕ, Ok, Err}
 use Rattle.rules.specs.Samples.{Slice, Equipment}
 use Rattle.rules.specs.Regions.{our_equipment}
 use Rattle.rules.specs.Refusals.{answer_number}
 use Rattle.rules.specs.Records.{step_of}
 use Rattle.rules.specs.declared.Board.{Board}
 use Rattle.rules.specs.declared.Report.{Report}
-use Rattle.rules.specs.declared.Answer.{Answer}
+use Rattle.rules.specs.Answers.{Answer}
 use Rattle.rules.specs.declared.Settings.{Settings}
 
 -- the record after a step; a refused one is as it was lent
@@ -27,8 +27,8 @@ step_number b s x = step_number_by our_equipment b s x
 
 -- a report is stored; a refused call gives none and changes nothing (spec 11.4)
 abbrev pub report_or : Report → Answer → Report
-report_or before (Answer.Reported report) = report
-report_or before (Answer.Refused cause) = before
+report_or before (Ok report) = report
+report_or before (Err cause) = before
 
 unfoldable pub report_after_by : Equipment → Report → Board → Settings → Slice → Report
 report_after_by e before b s x = report_or before (step_of e b s x).answer

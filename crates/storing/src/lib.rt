@@ -6,7 +6,7 @@ ghost use Rattle.rules.specs.Settings.{sheet_lines};
 ghost use Rattle.rules.specs.Sheets.{settings_of};
 ghost use Rattle.storing.specs.Stores.{with_numbers};
 
-use points::{four_points, two_points};
+use points::points;
 use rules::{Limit, Point, Settings, Span};
 use text::magnitude;
 
@@ -38,40 +38,25 @@ pub fn with_numbers(before: Settings, i: usize, n: [i32; 8]) -> Settings
     let mut next = before;
     let first = magnitude(n[0]);
     let second = magnitude(n[1]);
-    if i < 8 {
-        next.trip[i] = Limit {
-            level: first,
-            clearing: second,
-        };
-        return next;
-    }
     let span = Span {
         low: first,
         high: second,
     };
     match i {
-        8 => {
-            next.volts = span;
-            next
+        0..=7 => {
+            next.trip[i] = Limit {
+                level: first,
+                clearing: second,
+            };
         }
-        9 => {
-            next.hertz = span;
-            next
-        }
+        8 => next.volts = span,
+        9 => next.hertz = span,
         10 => {
             next.wait = first;
             next.ramp = second;
-            next
         }
-        11 => {
-            let var = four_points(n);
-            next.var = var;
-            next
-        }
-        _ => {
-            let watt = two_points(n);
-            next.watt = watt;
-            next
-        }
+        11 => next.var = points(n),
+        _ => next.watt = points(n),
     }
+    next
 }

@@ -13,7 +13,7 @@ ghost use Rattle.program.specs.Responses.{line_room};
 use lines::put_refused;
 use program::State;
 use rules::{LINE_ROOM, Refusal, refusal_number};
-use states::{Handled, either, stop};
+use states::{Handled, stop};
 use text::LONGEST;
 
 // What is written where the input ends with n bytes of a line.
@@ -29,8 +29,7 @@ fn put_end(out: &mut [u8], at: usize, q: State, n: usize) -> usize
     if 2 <= stage {
         return at;
     }
-    let begun = either(q.overlong, 0 < n);
-    if begun {
+    if q.overlong || 0 < n {
         return put_refused(out, at, refusal_number(Refusal::Sample), line);
     }
     at
@@ -41,15 +40,10 @@ fn drop_bytes(q: State, n: u64) -> State
     requires { q.taken + n < 18446744073709551616 }
     ensures { result ≡ dropping q n }
 {
-    let settings = q.settings;
-    let board = q.board;
     State {
-        stage: q.stage,
-        line: q.line,
         overlong: true,
         taken: q.taken + n,
-        settings,
-        board,
+        ..q
     }
 }
 
@@ -80,8 +74,7 @@ pub fn tail(h: Handled, s: &[u8], ends: bool, out: &mut [u8]) -> Handled
             written,
         };
     }
-    let longer = either(q.overlong, LONGEST < n);
-    if longer {
+    if q.overlong || LONGEST < n {
         let state = drop_bytes(q, n as u64);
         return Handled {
             state,

@@ -1,5 +1,3 @@
 pub mod Lines
-pub mod Cuts
 pub mod Made
 pub mod Whole
-pub mod Signs

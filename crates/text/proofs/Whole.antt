@@ -7,15 +7,16 @@ use mathlib.Core.Option.{Option, none, some}
 use Prim.Native.Nat.{ℕ, suc}
 use native.Mathlib.Omega.{arith}
 use lib.Dec.{eqb}
-use lib.IntN.{ℤ, pos}
-use lib.ListN.{length, get_or, drop, replicate, drop_of_length-le}
+use lib.IntN.{ℤ}
+use lib.ListN.{length, get_or, drop, drop_of_length-le}
 use lib.Seq.{drop-cons}
 use Rattle.rules.specs.Text.{Taken}
 use Rattle.rules.specs.Forms.{and_then, on_taken, on_byte, numbers_of}
 use Rattle.formats.specs.Marks.{is_mark, take_marked}
 use Rattle.formats.proofs.Forms.{numbers-marked, numbers-byte}
 use Rattle.matching.specs.Forms.{Formed, after, taken_then, byte_then, take_form}
-use Rattle.matching.specs.Places.{MatchAt}
+use Rattle.std.specs.Prelude.{Some, None}
+use Rattle.matching.specs.Places.{Matched}
 use Rattle.text.specs.Lines.{numbers_read}
 use Rattle.matching.specs.declared.Match.{Match}
 
@@ -64,17 +65,18 @@ numbers-whole (mark ∷ form) s = by-mark (is_mark mark) refl (numbers-whole for
 
 -- ---- a match that ends where the line does, and one that does not
 
-module _ (line : List ℕ) (m : Match) where
-  pub match-whole : (o : Option Formed) → MatchAt o line m → m.next ≡ length line
-      → record { found = m.found; n = m.n } ≡ numbers_read (whole o)
-  match-whole none e h = rw e
-  match-whole (some f) e h =
-      let over : f.rest ≡ [] = e.rest ∙ drop_of_length-le line {i = m.next} (omega arith) in
-      rw (over, e.found, e.numbers)
+module _ (form line : List ℕ) where
+  -- no match
+  pub match-none : take_form form line ≡ none → numbers_read (numbers_of form line) ≡ None
+  match-none e = rw (numbers-whole form line, e)
 
-  pub match-short : (o : Option Formed) → MatchAt o line m → (m.next ≡ length line → ⊥)
-      → record { found = false; n = replicate 8 (pos 0) } ≡ numbers_read (whole o)
-  match-short none e h = refl
-  match-short (some f) e h =
-      let more : f.rest ≡ get_or line m.next 0 ∷ drop (suc m.next) line = e.rest ∙ drop-cons line m.next 0 (omega (arith, h, e.inside)) in
-      rw more
+  module _ (m : Match) (e : Matched (take_form form line) line m) where
+    pub match-whole : m.next ≡ length line → numbers_read (numbers_of form line) ≡ Some m.n
+    match-whole h =
+        let over : drop m.next line ≡ [] = drop_of_length-le line {i = m.next} (omega arith) in
+        rw (numbers-whole form line, e.same, over, e.stored)
+
+    pub match-short : (m.next ≡ length line → ⊥) → numbers_read (numbers_of form line) ≡ None
+    match-short h =
+        let more : drop m.next line ≡ get_or line m.next 0 ∷ drop (suc m.next) line = drop-cons line m.next 0 (omega (arith, h, e.inside)) in
+        rw (numbers-whole form line, e.same, more)

@@ -1,48 +1,37 @@
 // Spec 3.2, 10.2: the forms of the sheet's thirteen lines and of the sample line. `#` stands
 // for a number, `~` for one that may have a minus, any other byte for itself.
-ghost use Rattle.std.specs.Prelude.{◌≡◌};
+ghost use Rattle.std.specs.Prelude.{◌≡◌, ◌<◌};
 ghost use Rattle.rules.specs.Forms.{sample_form};
-ghost use Rattle.formats.specs.Marks.{forms};
-ghost use Rattle.text.specs.Forms.{concatenated, starts_from};
+ghost use Rattle.formats.specs.Marks.{form_at};
 
-const FORMS: [u8; 251] = *b"\
-    (trip (uv1 # #))\
-    (trip (uv2 # #))\
-    (trip (ov1 # #))\
-    (trip (ov2 # #))\
-    (trip (uf1 # #))\
-    (trip (uf2 # #))\
-    (trip (of1 # #))\
-    (trip (of2 # #))\
-    (enter (volts # #))\
-    (enter (hertz # #))\
-    (enter (wait # #))\
-    (var (# ~) (# ~) (# ~) (# ~))\
-    (watt (# #) (# #))\
-    (at (# # #) # # # #)\
-";
-
-// Where each form begins, and where the last one ends.
-const STARTS: [usize; 15] = [
-    0, 16, 32, 48, 64, 80, 96, 112, 128, 147, 166, 184, 213, 231, 251,
+const FORMS: [&[u8]; 14] = [
+    b"(trip (uv1 # #))",
+    b"(trip (uv2 # #))",
+    b"(trip (ov1 # #))",
+    b"(trip (ov2 # #))",
+    b"(trip (uf1 # #))",
+    b"(trip (uf2 # #))",
+    b"(trip (of1 # #))",
+    b"(trip (of2 # #))",
+    b"(enter (volts # #))",
+    b"(enter (hertz # #))",
+    b"(enter (wait # #))",
+    b"(var (# ~) (# ~) (# ~) (# ~))",
+    b"(watt (# #) (# #))",
+    b"(at (# # #) # # # #)",
 ];
 
-// The forms, one after the other.
-pub fn form_bytes() -> [u8; 251]
-    ensures { result ≡ concatenated forms }
+// The form of this number: the sheet's lines are forms 0 to 12, and 13 is the sample line.
+pub fn form(i: usize) -> &'static [u8]
+    requires { i < 14 }
+    ensures { result.now ≡ form_at i }
 {
-    FORMS
+    FORMS[i]
 }
 
-pub fn form_starts() -> [usize; 15]
-    ensures { result ≡ starts_from 0 forms }
+// The sample line's form.
+pub fn sample_form() -> &'static [u8]
+    ensures { result.now ≡ sample_form }
 {
-    STARTS
-}
-
-// The sample line's form, to be made once and lent.
-pub fn sample_form() -> [u8; 20]
-    ensures { result ≡ sample_form }
-{
-    *b"(at (# # #) # # # #)"
+    FORMS[13]
 }

@@ -1,5 +1,6 @@
 -- Demand 2 (spec 13.2) holds of the board by the rules, for any sound equipment.
 -- Assumes nothing.
+use Rattle.std.specs.Prelude.{Ok}
 use mathlib.Core.Path.{◌≡◌, refl, sym, ap, ap₂, ◌∙◌, subst}
 use mathlib.Core.Bool.{Bool, true, false, cond, ◌&&◌, false≢true, true≢false}
 use mathlib.Core.Logic.{⊎_elim}
@@ -23,9 +24,7 @@ use Rattle.rules.specs.declared.Settings.{Settings}
 use Rattle.rules.specs.declared.Board.{Board}
 use Rattle.rules.specs.declared.Report.{Report}
 use Rattle.rules.specs.declared.Refusal.{Refusal}
-use Rattle.rules.specs.declared.SettingsCheck.{SettingsCheck}
-use Rattle.rules.specs.declared.SampleCheck.{SampleCheck}
-use Rattle.rules.specs.declared.Answer.{Answer}
+use Rattle.rules.specs.Answers.{Answer}
 use Rattle.rules.specs.declared.Stepped.{Stepped}
 use Rattle.causes.specs.Calls.{Call, Run, Program, ruled_by, fresh_report, last_report, called, called_all, run_of, call_accepted, accepted_one, accepted_after}
 use Rattle.causes.specs.Calls.{accepted_samples, LendsUnder, Under}
@@ -71,7 +70,7 @@ module _ (e : Equipment) (st : Settings) where
         stepped same a d =
             ap (λ (s : Settings). after (at h) (p.step (record_of e st h) s c.slice)) same
             ∙ ap (after (at h)) (takes (subst (λ (s : Settings). settings_accepted s ≡ true) same a) (record_of e st h) c.slice d)
-            ∙ ap (λ (b : Board). after (at h) (record { board = b; answer = Answer.Reported (report_of (shown e st b)) })) (next-is e st h c.slice)
+            ∙ ap (λ (b : Board). after (at h) (record { board = b; answer = Ok (report_of (shown e st b)) })) (next-is e st h c.slice)
             ∙ ap (λ (i : Items). record { board = record_of e st (c.slice ∷ h); report = report_of i }) (shown-is e st (c.slice ∷ h))
 
         by : (t : Bool) → call_accepted c ≡ t → after (at h) (p.step (record_of e st h) c.settings c.slice) ≡ at (cond t (c.slice ∷ h) h)
@@ -167,14 +166,14 @@ module _ (e : Equipment) (st : Settings) where
     -- ---- the claims
 
     pub answer-is : (h : History) (c : Call) → LendsUnder st c → call_accepted c ≡ true
-        → (step_of e (record_of e st h) c.settings c.slice).answer ≡ Answer.Reported (report_of (history_report e st (c.slice ∷ h)))
+        → (step_of e (record_of e st h) c.settings c.slice).answer ≡ Ok (report_of (history_report e st (c.slice ∷ h)))
     answer-is h c l p =
         let q = both (settings_accepted c.settings) (sample_accepted c.slice) p in
         ⊎_elim
         (λ same. ap (λ (t : Stepped). t.answer) (accepted-step e (record_of e st h) c.settings c.slice q.0 q.1)
-        ∙ ap (λ (s : Settings). Answer.Reported (report_of (shown e s (next e s c.slice (record_of e st h))))) same
-        ∙ ap (λ (b : Board). Answer.Reported (report_of (shown e st b))) (next-is e st h c.slice)
-        ∙ ap (λ (i : Items). Answer.Reported (report_of i)) (shown-is e st (c.slice ∷ h)))
+        ∙ ap (λ (s : Settings). Ok (report_of (shown e s (next e s c.slice (record_of e st h))))) same
+        ∙ ap (λ (b : Board). Ok (report_of (shown e st b))) (next-is e st h c.slice)
+        ∙ ap (λ (i : Items). Ok (report_of i)) (shown-is e st (c.slice ∷ h)))
         (λ bad. absurd (true≢false (sym q.0 ∙ bad))) l
 
     shown-right : Shows e (ruled_by e) st

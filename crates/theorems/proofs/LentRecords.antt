@@ -1,5 +1,6 @@
 -- A lent record counts by its reading; reading twice is reading once; a record that calls have left is read as it is.
 -- Assumes nothing.
+use Rattle.std.specs.Prelude.{Ok}
 use mathlib.Core.Path.{◌≡◌, refl, sym, ap, ap₂, ◌∙◌}
 use mathlib.Core.Bool.{Bool, true, false, cond}
 use mathlib.Core.List.{List, [], ◌∷◌}
@@ -16,7 +17,6 @@ use Rattle.rules.specs.Records.{each, capped, read_as, ruled, next, shown, step_
 use Rattle.rules.specs.History.{History, serving}
 use Rattle.rules.specs.declared.Settings.{Settings}
 use Rattle.rules.specs.declared.Board.{Board}
-use Rattle.rules.specs.declared.Answer.{Answer}
 use Rattle.rules.specs.declared.Stepped.{Stepped}
 use Rattle.causes.specs.Calls.{Call, Run, ruled_by, run_of, accepted_samples, Under}
 use Rattle.claims.specs.LentRecords.{ReadsRecords}
@@ -82,7 +82,7 @@ module _ (e : Equipment) (st : Settings) where
   step-read : (b : Board) (x : Slice) → settings_accepted st ≡ true → sample_accepted x ≡ true → step_of e b st x ≡ step_of e (read_as e st b) st x
   step-read b x ok good =
       accepted-step e b st x ok good
-      ∙ ap (λ (c : Board). record { board = c; answer = Answer.Reported (report_of (shown e st c)) }) (next-read x b)
+      ∙ ap (λ (c : Board). record { board = c; answer = Ok (report_of (shown e st c)) }) (next-read x b)
       ∙ sym (accepted-step e (read_as e st b) st x ok good)
 
   -- ---- a record of a history

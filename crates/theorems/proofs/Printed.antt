@@ -1,5 +1,6 @@
 -- What is printed for the lines after an accepted sheet is what the accepted samples among them give.
 -- Assumes nothing.
+use Rattle.std.specs.Prelude.{Ok, Err}
 use mathlib.Core.Path.{◌≡◌, refl, sym, ap, ap₂, ◌∙◌}
 use mathlib.Core.Bool.{Bool, true, false, cond, ◌&&◌, false≢true}
 use mathlib.Core.Logic.{◌⊎◌, inl, inr, ⊎_elim, ◌↔◌}
@@ -29,8 +30,7 @@ use Rattle.rules.specs.declared.Report.{Report}
 use Rattle.rules.specs.declared.Refusal.{Refusal}
 use Rattle.rules.specs.declared.Refusal.TheVariants.{Sample}
 use Rattle.rules.specs.declared.Region.TheVariants.{Continuous}
-use Rattle.rules.specs.declared.SampleCheck.{SampleCheck}
-use Rattle.rules.specs.declared.Answer.{Answer}
+use Rattle.rules.specs.Answers.{SampleCheck, Answer}
 use Rattle.rules.specs.declared.Stepped.{Stepped}
 use Rattle.claims.specs.Held.{RanOut, WaitFull}
 use Rattle.claims.specs.Sound.{Sound}
@@ -109,8 +109,8 @@ refusal-none why n = refl
 -- an answer with a refusal's number is the line of that refusal
 refusal-line : (a : Answer) (why : Refusal) (n : ℕ) → refusal_number why ≡ answer_number a → answer_line n a ≡ refused_line (refusal_number why) n
 unfolding refused_line
-refusal-line (Answer.Reported r) why n e = absurd (omega (arith, (number-bounds why).0))
-refusal-line (Answer.Refused c) why n e =
+refusal-line (Ok r) why n e = absurd (omega (arith, (number-bounds why).0))
+refusal-line (Err c) why n e =
     ap (λ (k : ℕ). bytes "(refused" ++ (spaced_numbers (pos k ∷ pos n ∷ []) ++ bytes ")\n")) (sym e)
 
 -- ---- one line, on the record of a history
@@ -243,8 +243,8 @@ module _ (e : Equipment) (st : Settings) (ok : settings_accepted st ≡ true) wh
       where
         checked : (x : Slice) → sample_on (line_at ls k) ≡ some x → (c : SampleCheck) → sample_check x ≡ c
             → ((y : Slice) × AcceptedAt ls k y) ⊎ ((why : Refusal) × CauseAt ls k why)
-        checked x p SampleCheck.Accepted q = inl (x, record { line = l; sample = p; accepted = rw q })
-        checked x p (SampleCheck.Refused why) q =
+        checked x p (Ok ok) q = inl (x, record { line = l; sample = p; accepted = rw q })
+        checked x p (Err why) q =
             inr (why, record { line = l; number = ap sample_number (sym q) ∙ sample-number x ∙ ap (λ (o : Option Slice). first (causes_on o)) (sym p) })
 
         by : (o : Option Slice) → sample_on (line_at ls k) ≡ o → ((x : Slice) × AcceptedAt ls k x) ⊎ ((why : Refusal) × CauseAt ls k why)

@@ -1,18 +1,17 @@
 -- `carryover::back` meets its contract: refused, it writes nothing; else the old bytes of the image.
 -- Assumes nothing.
-use borrow.Author.Rules.{rules}
-use mathlib.Core.Path.{◌≡◌, sym, ap, ◌∙◌}
+use mathlib.Core.Path.{◌≡◌, refl, sym, ap, ◌∙◌}
 use mathlib.Core.Bool.{Bool}
 use mathlib.Core.List.{List}
-use native.Mathlib.Omega.{arith}
-use Prim.Native.Nat.{ℕ, ◌≤◌}
+use Prim.Native.Nat.{ℕ}
 use lib.Dec.{eqb, leb}
 use lib.ListN.{length}
+use Rattle.std.specs.Prelude.{Ok, Err}
+use Rattle.std.proofs.lemmas.Result.{err_from_is_err_and}
 use Rattle.rules.specs.Images.{image_length}
 use Rattle.oldimages.specs.OldImages.{old_length, has_added}
-use Rattle.carryover.specs.CarryOver.{carried_back, carry_answer, back_answer, back_into}
-use Rattle.carryover.specs.declared.CarryAnswer.{CarryAnswer}
-use Rattle.carryover.proofs.Outcomes.{front, refused, carried, clear, back-first}
+use Rattle.carryover.specs.CarryOver.{CarryAnswer, carried_back, carry_answer, back_answer, back_into}
+use Rattle.carryover.proofs.Outcomes.{front, promised}
 use Rattle.carryover.proofs.back.Goals as goal
 
 -- the answer, with the second test as the code found it
@@ -21,28 +20,19 @@ answered : (source target : List ℕ) (added : Bool) (a : CarryAnswer) → added
 unfolding back_answer
 answered source target added a e told = told ∙ ap (λ (b : Bool). carry_answer (eqb (length source) image_length) b (leb old_length (length target))) e
 
-pub returns-in_default : goal.returns-in_default
+pub returns-in_err-checked-clause-value : goal.returns-in_err-checked-clause-value
 unfolding back_into
-returns-in_default c =
-    let answer = c.checked-answer in
-    let added = c.has_added-added in
+returns-in_err-checked-clause-value c =
     let source = c.args.source.now in
     let target = c.args.target.now in
-    let told = answered source target added.result answer.result added.ensures answer.ensures in
-    let p = refused (back_answer source target) _ (back-first source target) (carried_back source) target answer.result told c.in_default.not-Written in
-    record { value = p.0; result_value = p.1 }
+    let told = answered source target c.has_added.result c.checked.result c.has_added.ensures c.checked.ensures in
+    let p = err_from_is_err_and c.from_residual.result c.from_residual.ensures.1 in
+    promised (back_answer source target) _ (carried_back source) target target (p.1 ∙ ap Err p.2 ∙ sym c.in_err-checked.was ∙ told) (rw p.1 refl)
 
--- where nothing is refused the lengths are right
-long : (source target : List ℕ) → back_answer source target ≡ CarryAnswer.Written → (length source ≡ image_length) × (old_length ≤ length target)
-unfolding back_answer
-long source target e = let h = clear source target image_length old_length (has_added source) e in (h.0, h.2)
-
-pub returns : goal.returns
+pub returns-clause-value : goal.returns-clause-value
 unfolding back_into
-returns c =
+returns-clause-value c =
     let source = c.args.source.now in
     let target = c.args.target.now in
-    let told = sym (answered source target c.has_added-added.result c.checked-answer.result c.has_added-added.ensures c.checked-answer.ensures) ∙ c.in-Written.is in
-    let bytes = c.copy_old.ensures ∙ front (carried_back source) target in
-    let p = carried (back_answer source target) _ (back-first source target) (carried_back source) target told _ bytes in
-    record { value = p.0; result_value = p.1 }
+    let told = sym c.in_ok-checked.was ∙ answered source target c.has_added.result c.checked.result c.has_added.ensures c.checked.ensures in
+    promised (back_answer source target) (Ok tt) (carried_back source) target _ told (c.copy_old.ensures ∙ front (carried_back source) target)

@@ -13,11 +13,11 @@ returns-clause-n_value c =
     let a = c.args in
     let most = c.top-most in
     let n = c.count-n in
-    let nine : length a.old ≡ 9 = search rules in λ r e. ninth-counted r a.s a.old nine (unbroken r a.s c.requires e) true most.result n.result (sym e) most.ensures n.ensures
+    let nine : length a.old ≡ 9 = search rules in λ r e. ninth-counted r a.s.settings a.old nine (unbroken r a.s.settings a.s.sheet e) true most.result n.result (sym e) most.ensures n.ensures
 
 pub returns-clause-bits_value : goal.returns-clause-bits_value
 returns-clause-bits_value c =
     let a = c.args in
     let most = c.top-most in
     let n = c.count-n in
-    let nine : length a.old ≡ 9 = search rules in λ r. ninth-marked r a.s c.requires most.result n.result c.marked.result most.ensures c.marked.ensures
+    let nine : length a.old ≡ 9 = search rules in λ r. ninth-marked r a.s.settings a.s.sheet most.result n.result c.marked.result most.ensures c.marked.ensures

@@ -1,5 +1,6 @@
 -- `image::save` meets its contract: a buffer under 49 bytes is left alone, and any other gets the image.
 -- Assumes nothing.
+use Rattle.std.specs.Prelude.{Ok, Err}
 use borrow.Author.Rules.{rules}
 use borrow.Author.Tests.{le-leb, lt-leb}
 use mathlib.Core.Path.{◌≡◌, refl, ap, ◌∙◌}
@@ -12,7 +13,7 @@ use lib.ListN.{length, drop}
 use Rattle.rules.specs.Images.{image, image_length, save_check, saved_into}
 use Rattle.rules.specs.Refusals.{saved_number}
 use Rattle.rules.specs.declared.Board.{Board}
-use Rattle.rules.specs.declared.Saved.{Saved}
+use Rattle.rules.specs.Answers.{Saved}
 use Rattle.rules.specs.declared.Refusal.TheVariants.{Buffer}
 use Rattle.causes.specs.FirstCause.{cause, first}
 use Rattle.laws.proofs.FirstCause.{save-number}
@@ -38,7 +39,7 @@ returns-then-out-lt-IMAGE_LENGTH c =
     let out = c.args.out.now in
     let short : length out < image_length = omega arith in
     let both =
-    promised c.args.b out out (Saved.Refused Buffer) (rw (lt-leb image_length _ short) (refl, refl))
+    promised c.args.b out out (Err Buffer) (rw (lt-leb image_length _ short) (refl, refl))
     in record { value = both.0; result_value = both.1 }
 
 pub returns : goal.returns
@@ -48,6 +49,6 @@ returns c =
     let whole = front c.args.out.now (image c.args.b) (image-length c.args.b nine) in
     let long : image_length ≤ length c.args.out.now = omega arith in
     let both =
-    promised c.args.b c.args.out.now c.put_image.new.out Saved.Written
+    promised c.args.b c.args.out.now c.put_image.new.out (Ok tt)
     (rw (le-leb image_length _ long) (refl, c.put_image.ensures ∙ whole))
     in record { value = both.0; result_value = both.1 }

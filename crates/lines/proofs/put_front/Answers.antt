@@ -5,7 +5,6 @@ use native.Mathlib.Omega.{arith}
 use Rattle.buffers.proofs.Writing.{and_then}
 use Rattle.lines.specs.Fronts.{report_front}
 use Rattle.lines.proofs.Whole.{steady-front}
-use borrow.Author.Rules.{rules}
 use Rattle.lines.proofs.put_front.Goals as goal
 
 pub returns-then-is_steady : goal.returns-then-is_steady
@@ -17,4 +16,4 @@ returns-then-is_steady c =
 pub returns : goal.returns
 unfolding report_front
 returns c =
-    record { wrote = and_then c.put_head-a.ensures.wrote (and_then c.put_number-b.ensures.wrote c.put_number.ensures.wrote); upper_bound = omega (arith, c.put_head-a.ensures.upper_bound, c.put_number-b.ensures.upper_bound, c.put_number.ensures.upper_bound) }
+    record { wrote = and_then c.put_head-a.ensures.wrote (and_then c.put_number-b.ensures.wrote (rw c.from.ensures at c.put_number.ensures.wrote)); upper_bound = omega (arith, c.put_head-a.ensures.upper_bound, c.put_number-b.ensures.upper_bound, c.put_number.ensures.upper_bound) }

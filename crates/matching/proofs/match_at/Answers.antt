@@ -1,64 +1,56 @@
 -- `matching::match_at` meets its contract: each turn takes one byte of the form, with its number or its byte of the text.
 -- Assumes nothing.
-use mathlib.Core.Path.{sym, ◌∙◌}
-use Prim.Native.Nat.{◌-◌, ◌≤◌}
-use native.Mathlib.Omega.{arith}
-use borrow.Author.Tests.{not-true, not-false}
-use lib.ListN.{length}
+use Rattle.std.proofs.Common.{◌≡◌, sym, ◌∙◌, ◌<◌, ◌≤◌, length, rules, slice_index_or}
 use mir.Facts.{to_z-of_z}
 use Rattle.numerals.proofs.Taking.{small-fits}
-use Rattle.matching.proofs.Matching.{Matching, match-start, match-fails, has_room, no-number, next-number, no_byte, other_byte, next-byte, match-ends}
-use borrow.Author.Rules.{rules}
+use Rattle.matching.proofs.Matching.{has_room, no-number, next-number, no_byte, other_byte, next-byte, match-ends}
 use Rattle.matching.proofs.match_at.Goals as goal
+use Rattle.matching.proofs.match_at.Goals.{then-is_mark+in_ok-x, else-is_mark+in_ok-b+else-b-mark}
 
-pub returns-then-not-x : goal.returns-then-not-x
-returns-then-not-x c =
+pub returns-in_err-x : goal.returns-in_err-x
+returns-in_err-x c =
     let a = c.args in
-    let mark = sym c.is_mark.ensures ∙ c.if-is_mark.true in
-    match-fails _ _ _ (no-number a.form.now a.s.now a.start c.loop-j.n c.loop-j.k c.loop-j.at c.loop-j.j c.loop-j.invariant.0
-    c.loop-j-test.true mark c.marked_at-x.result
-    c.marked_at-x.ensures (not-true _ c.if-not-x.true)) c.no_match.ensures
+    let l = c.loop-mark in
+    rw c.from_residual.ensures (no-number a.form.now a.s.now a.start l.n l.k l.at l.mark-index l.invariant c.loop-mark-test.true
+    (sym c.if-is_mark.ensures) c.in_err-x.ensures)
 
 pub bounds-n-k : goal.bounds-n-k
 bounds-n-k c =
     let a = c.args in
-    let mark = sym c.is_mark.ensures ∙ c.if-is_mark.true in
-    has_room a.form.now a.s.now a.start c.loop-j.n c.loop-j.k c.loop-j.at c.loop-j.j c.loop-j.invariant.0
-    c.loop-j-test.true mark
+    let l = c.loop-mark in
+    has_room a.form.now a.s.now a.start l.n l.k l.at l.mark-index l.invariant c.loop-mark-test.true (sym c.if-is_mark.ensures)
 
-pub loop-j-preserved-then-is_mark : goal.loop-j-preserved-then-is_mark
-loop-j-preserved-then-is_mark c =
+pub returns-in_err-b : goal.returns-in_err-b
+returns-in_err-b c =
     let a = c.args in
-    let mark = sym c.is_mark.ensures ∙ c.if-is_mark.true in
-    let x = c.marked_at-x in (
-      rw (to_z-of_z (small-fits x.result.value x.ensures.small)) (next-number a.form.now a.s.now a.start c.loop-j.n c.loop-j.k c.loop-j.at c.loop-j.j c.loop-j.invariant.0 c.loop-j-test.true mark x.result x.ensures (not-false _ c.if-not-x.false)),
-      omega arith,
-    )
+    let l = c.loop-mark in
+    let past : length a.s.now ≤ l.at = search rules in
+    rw c.from_residual-in_err-b.ensures (no_byte a.form.now a.s.now a.start l.n l.k l.at l.mark-index l.invariant c.loop-mark-test.true
+    (sym c.if-is_mark.ensures) past)
 
-pub returns-then-at-s : goal.returns-then-at-s
-returns-then-at-s c =
+pub returns-then-b-mark : goal.returns-then-b-mark
+returns-then-b-mark c =
     let a = c.args in
-    let mark = sym c.is_mark.ensures ∙ c.if-is_mark.false in
-    match-fails _ _ _ (no_byte a.form.now a.s.now a.start c.loop-j.n c.loop-j.k c.loop-j.at c.loop-j.j c.loop-j.invariant.0
-    c.loop-j-test.true mark c.if-at-s.true) c.no_match-then-at-s.ensures
+    let l = c.loop-mark in
+    let inside : l.at < length a.s.now = search rules in
+    let same : c.in_ok-b.b.now ≡ slice_index_or a.s.now l.at 0 = search rules in
+    other_byte a.form.now a.s.now a.start l.n l.k l.at l.mark-index l.invariant c.loop-mark-test.true (sym c.if-is_mark.ensures)
+    inside (λ e. c.if-b-mark.true (same ∙ e))
 
-pub returns-then-s-at : goal.returns-then-s-at
-returns-then-s-at c =
+pub loop-mark-preserved : goal.loop-mark-preserved
+loop-mark-preserved c =
     let a = c.args in
-    let mark = sym c.is_mark.ensures ∙ c.if-is_mark.false in
-    match-fails _ _ _ (other_byte a.form.now a.s.now a.start c.loop-j.n c.loop-j.k c.loop-j.at c.loop-j.j c.loop-j.invariant.0
-    c.loop-j-test.true mark c.if-at-s.false c.if-s-at.true)
-    c.no_match-then-s-at.ensures
-
-pub loop-j-preserved : goal.loop-j-preserved
-loop-j-preserved c =
-    let a = c.args in
-    let mark = sym c.is_mark.ensures ∙ c.if-is_mark.false in (
-      next-byte a.form.now a.s.now a.start c.loop-j.n c.loop-j.k c.loop-j.at c.loop-j.j c.loop-j.invariant.0 c.loop-j-test.true mark c.if-at-s.false c.if-s-at.false,
-      omega arith,
-    )
+    let l = c.loop-mark in
+    elim c.if-is_mark.branch [
+      | then-is_mark+in_ok-x w ↦ let x = w.in_ok-x in rw (w.n-is, w.k-is, w.at-is, to_z-of_z (small-fits x.x.value x.ensures.small))
+          (next-number a.form.now a.s.now a.start l.n l.k l.at l.mark-index l.invariant c.loop-mark-test.true (sym w.if-is_mark.ensures) x.x x.ensures)
+      | else-is_mark+in_ok-b+else-b-mark w ↦ let inside : l.at < length a.s.now = search rules in let same : w.in_ok-b.b.now ≡ slice_index_or a.s.now l.at 0 = search rules in rw (w.n-is, w.k-is, w.at-is)
+          (next-byte a.form.now a.s.now a.start l.n l.k l.at l.mark-index l.invariant c.loop-mark-test.true (sym w.if-is_mark.ensures)
+          inside (sym same ∙ w.if-b-mark.false))
+    ]
 
 pub returns : goal.returns
 returns c =
     let a = c.args in
-    match-ends a.form.now a.s.now a.start c.loop-j.n c.loop-j.k c.loop-j.at c.loop-j.j c.loop-j.invariant.0 c.loop-j-test.false
+    let l = c.loop-mark in
+    match-ends a.form.now a.s.now a.start l.n l.k l.at l.mark-index l.invariant c.loop-mark-test.false

@@ -1,52 +1,35 @@
 -- `numerals::digits_at` meets its contract: the loop goes along a run of digits, up to the seventh.
 -- Assumes nothing.
-use mathlib.Core.Path.{◌≡◌, ap}
-use Prim.Native.Nat.{ℕ, ◌+◌, ◌-◌, ◌≤◌, min}
-use native.Mathlib.Omega.{arith}
-use lib.ListN.{length, get_or}
-use Rattle.formats.proofs.Digits.{IsDigit, below-digit, above-digit}
-use Rattle.numerals.proofs.Runs.{Run, run-start, run_more, run-other, run_ends, run-below}
-use borrow.Author.Rules.{rules}
+use Rattle.std.proofs.Common.{arith, sym, ap, ◌+◌, ℕ, slice_index_or}
+use Rattle.rules.specs.Tests.{within}
+use Rattle.formats.proofs.Digits.{digit-is}
+use Rattle.numerals.proofs.Runs.{run_more, run-other, run_ends, run-below}
 use Rattle.numerals.proofs.digits_at.Goals as goal
 
-pub loop-i-init : goal.loop-i-init
-loop-i-init c =
-    let a = c.args in
-    (run-start a.s.now a.at, omega arith, ap (λ (k : ℕ). a.at + k) c.smaller.ensures)
-
-pub returns-then-b-lt48 : goal.returns-then-b-lt48
-returns-then-b-lt48 c =
+pub returns-then-not-is_ascii_digit : goal.returns-then-not-is_ascii_digit
+unfolding within
+returns-then-not-is_ascii_digit c =
     let l = c.loop-i in
-    let a = c.args in
-    run-other a.s.now a.at l.value l.i l.invariant.0 (omega (arith, l.invariant.2)) (omega (arith, l.invariant.2)) (below-digit _ c.if-b-lt48.true)
-
-pub returns-then-b-gt57 : goal.returns-then-b-gt57
-returns-then-b-gt57 c =
-    let l = c.loop-i in
-    let a = c.args in
-    run-other a.s.now a.at l.value l.i l.invariant.0 (omega (arith, l.invariant.2)) (omega (arith, l.invariant.2)) (above-digit _ c.if-b-gt57.true)
+    run-other c.args.s.now c.args.at l.value l.i l.invariant (omega arith) (omega arith) (sym c.if-not-is_ascii_digit.ensures.value)
 
 pub overflow_mul-value : goal.overflow_mul-value
-overflow_mul-value c =
-    let l = c.loop-i in
-    let a = c.args in
-    omega (arith, run-below a.s.now a.at l.value l.i l.invariant.0 (omega (arith, l.invariant.2)))
+overflow_mul-value c = let l = c.loop-i in omega (arith, run-below c.args.s.now c.args.at l.value l.i l.invariant (omega arith))
 
 pub overflow_add-value : goal.overflow_add-value
+unfolding within
 overflow_add-value c =
     let l = c.loop-i in
-    let a = c.args in
-    omega (arith, run-below a.s.now a.at l.value l.i l.invariant.0 (omega (arith, l.invariant.2)), c.if-b-gt57.false)
+    let d = digit-is (slice_index_or c.args.s.now l.i 0) (sym c.if-not-is_ascii_digit.ensures.value) in
+    omega (arith, d.high, run-below c.args.s.now c.args.at l.value l.i l.invariant (omega arith))
 
 pub loop-i-preserved : goal.loop-i-preserved
+unfolding within
 loop-i-preserved c =
     let l = c.loop-i in
-    let a = c.args in
-    let d : IsDigit (get_or a.s.now l.i 0) = record { low = c.if-b-lt48.false; high = c.if-b-gt57.false } in
-    (run_more a.s.now a.at l.value l.i l.invariant.0 (omega (arith, l.invariant.2)) d, omega arith, l.invariant.2)
+    let d = digit-is (slice_index_or c.args.s.now l.i 0) (sym c.if-not-is_ascii_digit.ensures.value) in
+    run_more c.args.s.now c.args.at l.value l.i l.invariant (omega arith) d
 
 pub returns : goal.returns
 returns c =
     let l = c.loop-i in
-    let a = c.args in
-    run_ends a.s.now a.at l.value l.i l.invariant.0 (omega (arith, l.invariant.2)) (omega (arith, l.invariant.2)) c.requires
+    run_ends c.args.s.now c.args.at l.value l.i l.invariant _ (ap (λ (k : ℕ). c.args.at + k) c.min.ensures) (omega arith) c.requires

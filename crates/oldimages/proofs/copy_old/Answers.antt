@@ -1,19 +1,15 @@
--- `oldimages::copy_old` meets its contract. The loop's invariant: the bytes before `i` are copied.
+-- `oldimages::copy_old` meets its contract: the front of the target that is copied to is a write of the source's first bytes.
 -- Assumes nothing.
-use borrow.Author.Rules.{rules}
-use mathlib.Core.Path.{◌≡◌, refl, ◌∙◌}
-use Prim.Native.Nat.{◌+◌, ◌-◌, ◌≤◌}
 use native.Mathlib.Omega.{arith}
-use lib.ListN.{length, length-set}
-use lib.Seq.{paste, paste-zero}
-use Rattle.buffers.proofs.Writing.{copy_more}
+use mathlib.Core.Path.{◌≡◌, refl}
+use lib.ListN.{length, take}
+use lib.Seq.{length-take-le}
+use Rattle.buffers.specs.Written.{written}
 use Rattle.oldimages.specs.OldImages.{old_length}
-use Rattle.oldimages.proofs.Copies.{copied-front}
 use Rattle.oldimages.proofs.copy_old.Goals as goal
 
 pub returns : goal.returns
+unfolding written
 returns c =
-    let args = c.args in
-    let all : c.loop-i.i ≡ old_length = omega arith in
-    let long : old_length ≤ length args.source.now = omega arith in
-    c.loop-i.invariant.1 ∙ rw all (copied-front args.target.now args.source.now old_length long)
+    let long : length (take old_length c.args.source.now) ≡ 45 = length-take-le old_length c.args.source.now (omega arith) in
+    rw (c.copy_from_slice.ensures.after, long) refl

@@ -17,28 +17,14 @@ use Rattle.output.proofs.OnReading.{kept32, vars-on, watts-on}
 use borrow.Author.Rules.{rules}
 use Rattle.output.proofs.powers_in.Goals as goal
 
-pub returns-then-not-gives_power-clause-vars_value : goal.returns-then-not-gives_power-clause-vars_value
-unfolding vars_of watts_of
-returns-then-not-gives_power-clause-vars_value c =
-    let given = c.gives_power in
-    let off : exports c.args.status ≡ false = sym given.ensures ∙ c.if-not-gives_power.true in
-    λ e x q. rw off
-
-pub returns-then-not-gives_power-clause-watts_value : goal.returns-then-not-gives_power-clause-watts_value
-unfolding vars_of watts_of
-returns-then-not-gives_power-clause-watts_value c =
-    let given = c.gives_power in
-    let off : exports c.args.status ≡ false = sym given.ensures ∙ c.if-not-gives_power.true in
-    (λ e x q. rw off)
-
 pub volt_var-vars-requires : goal.volt_var-vars-requires
 volt_var-vars-requires c =
-    var-rises c.args.s c.requires.sheet
+    var-rises c.args.s.settings c.args.s.sheet
 
 pub volt_watt-curve-requires : goal.volt_watt-curve-requires
 volt_watt-curve-requires c = (
-  watt-rises c.args.s c.requires.sheet,
-  watt-not-negatives c.args.s c.requires.sheet,
+  watt-rises c.args.s.settings c.args.s.sheet,
+  watt-not-negatives c.args.s.settings c.args.s.sheet,
 )
 
 pub returns : goal.returns
@@ -53,11 +39,11 @@ returns c =
     let others = curve.result ∷ nameplate vars.result ∷ recovery_limit a.recovery ∷ [] in
     let begin = c.first_limits-p in
     let turns : c.within_recovery-watts.result ≡ in_turn begin.result others
-    = rw (c.within_recovery-watts.ensures, c.within_nameplate-p.ensures, c.smaller-p.ensures, same) in
+    = rw (c.within_recovery-watts.ensures, c.within_nameplate-p.ensures, c.min-p.ensures, same) in
     let low : c.within_recovery-watts.result ≤ 10000 = rw turns (omega (arith, in-turn-low begin.result others, begin.ensures.upper_bound, pre.available-top)) in (record {
-      vars_value = (λ e x q. same ∙ vars-on e a.s x a.r q a.status on vars.result vars.ensures.value);
+      vars_value = (λ e x q. same ∙ vars-on e a.s.settings x a.r q a.status on vars.result vars.ensures.value);
       watts_value = (λ e x q.
-          watts-on e a.s x a.r q a.status on a.share a.recovery a.held begin.result vars.result curve.result _ (begin.ensures.value e x q)
+          watts-on e a.s.settings x a.r q a.status on a.share a.recovery a.held begin.result vars.result curve.result _ (begin.ensures.value e x q)
           vars.ensures.value curve.ensures.value turns);
       watts_bound = (low, rw same vars.ensures.result_bound);
     })

@@ -9,17 +9,17 @@ use Rattle.pairs.proofs.Sheet.{trip-at, first-pair}
 use borrow.Author.Rules.{rules}
 use Rattle.pairs.proofs.pair_at.Goals as goal
 
-pub returns-then-line-lt8 : goal.returns-then-line-lt8
-returns-then-line-lt8 c =
+pub returns-in-0-to-7 : goal.returns-in-0-to-7
+returns-in-0-to-7 c =
     let one = first-pair c.args.line c.args.k (omega arith) c.requires.1 in
-    rw (c.unsigned_pair.ensures, trip-at c.args.s c.args.line (omega arith), one)
+    rw (c.unsigned_pair-in-0-to-7.ensures, trip-at c.args.s c.args.line (omega arith), one)
 
 pub returns-in-8 : goal.returns-in-8
 unfolding lines_of
 returns-in-8 c =
     let one = first-pair c.args.line c.args.k (omega arith) c.requires.1 in
     let at : c.args.line ≡ 8 = omega arith in
-    rw (c.unsigned_pair-in-8.ensures, at, one)
+    rw (c.unsigned_pair.ensures, at, one)
 
 pub returns-in-9 : goal.returns-in-9
 unfolding lines_of

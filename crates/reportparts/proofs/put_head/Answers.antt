@@ -1,6 +1,5 @@
 -- `reportparts::put_head` meets its contract: its four writes are the line's begin.
 -- Assumes nothing.
-use borrow.Author.Rules.{rules}
 use native.Mathlib.Omega.{arith}
 use Rattle.buffers.proofs.Writing.{and_then}
 use Rattle.reportparts.specs.Parts.{report_head}

@@ -1,11 +1,12 @@
 -- `respond::respond` meets its contract.
 -- Assumes nothing.
-use Rattle.std.proofs.Common.{◌≡◌, sym, ap, ◌∙◌, ◌||◌, ℕ, arith, length}
+use Rattle.std.proofs.Common.{◌≡◌, refl, sym, ap, ◌∙◌, ◌||◌, ℕ, arith, length}
 use mathlib.Core.Bool.{false≢true}
 use Prim.Native.Nat.{min}
 use lib.Dec.{leb}
 use Rattle.rules.specs.Regions.{our_equipment}
 use Rattle.respond.proofs.Whole.{wild, taken-low, fit-part, part-inside, short-left, responds}
+use Rattle.respond.proofs.respond.Goals.{then-last, else-last}
 use Rattle.respond.proofs.respond.Goals as goal
 
 pub returns-then-not-sensible : goal.returns-then-not-sensible
@@ -39,14 +40,17 @@ pub returns : goal.returns
 returns c =
     let a = c.args in
     let w = c.within_budget-end in
-    let e = c.either-ends in
     let r = c.handle-r in
     let told = sym c.sensible.ensures ∙ c.if-not-sensible.false in
     let end = part_end _ _ _ _ c.budget-budget.ensures w.ensures in
     let block = a.block.now in
     let out = a.out.now in
-    let ends = e.ensures ∙ ap (λ (m : ℕ). a.last || leb m (length block)) c.budget-budget.ensures in
-    let whole = responds our_equipment a.state block a.last told w.result end e.result ends out _ r.result r.ensures in
+    let tests : c.if-last.ends ≡ (a.last || leb c.budget-budget.result (length block)) = elim c.if-last.branch [
+      | then-last w ↦ rw (w.ends-is, w.if-last.true) refl
+      | else-last w ↦ rw (w.ends-is, w.if-last.false) refl
+    ] in
+    let ends = tests ∙ ap (λ (m : ℕ). a.last || leb m (length block)) c.budget-budget.ensures in
+    let whole = responds our_equipment a.state block a.last told w.result end c.if-last.ends ends out _ r.result r.ensures in
     record {
       responds = whole;
       taken_in_bounds = (part-inside block w.result r.result.at r.ensures.inside, r.ensures.wrote.inside);

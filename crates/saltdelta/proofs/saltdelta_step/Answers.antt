@@ -1,15 +1,15 @@
--- `saltdelta::saltdelta_step` meets its contract: where the call is refused nothing is stored, else its record and its report are stored.
+-- `saltdelta::saltdelta_step` meets its contract: where the call is refused nothing is stored, else its record and its report are.
 -- Assumes nothing.
-use native.Mathlib.Omega.{arith}
-use Rattle.stepcalls.proofs.Storing.{step-stored, step_kept}
+use Rattle.stepcalls.proofs.Storing.{step-stored, step-kept}
+use borrow.Author.Rules.{rules}
 use Rattle.saltdelta.proofs.saltdelta_step.Goals as goal
 
-pub returns-then-next-ne0 : goal.returns-then-next-ne0
-returns-then-next-ne0 c =
-    step_kept c.args.board.now c.args.settings.now c.args.sample.now c.args.report.now c.step_call-next.result c.step_call-next.ensures
-    (omega (arith, c.if-next-ne0.true))
+pub returns-in-Ok : goal.returns-in-Ok
+returns-in-Ok c =
+    let a = c.args in
+    step-stored a.board.now a.settings.now a.sample.now c.step-next.result c.step-next.ensures.value a.report.now c.in-Ok.given c.in-Ok.is
 
-pub returns : goal.returns
-returns c =
-    step-stored c.args.board.now c.args.settings.now c.args.sample.now c.args.report.now c.step_call-next.result c.step_call-next.ensures
-    (omega (arith, c.if-next-ne0.false))
+pub returns-in-Err : goal.returns-in-Err
+returns-in-Err c =
+    let a = c.args in
+    rw c.from.ensures (step-kept a.board.now a.settings.now a.sample.now c.step-next.result c.step-next.ensures.value a.report.now c.in-Err.cause c.in-Err.is)

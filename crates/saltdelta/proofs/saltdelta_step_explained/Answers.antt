@@ -1,15 +1,18 @@
--- `saltdelta::saltdelta_step_explained` meets its contract: where the call is refused nothing is stored, else its record, its report and the rules are stored.
+-- `saltdelta::saltdelta_step_explained` meets its contract: where the call is refused nothing is stored, else its record, its report and the
+-- rules are.
 -- Assumes nothing.
-use native.Mathlib.Omega.{arith}
 use Rattle.stepcalls.proofs.Storing.{explained-stored, explained-kept}
+use borrow.Author.Rules.{rules}
 use Rattle.saltdelta.proofs.saltdelta_step_explained.Goals as goal
 
-pub returns-then-next-ne0 : goal.returns-then-next-ne0
-returns-then-next-ne0 c =
-    explained-kept c.args.board.now c.args.settings.now c.args.sample.now c.args.explained.now c.explained_call-next.result c.explained_call-next.ensures
-    (omega (arith, c.if-next-ne0.true))
+pub returns-in-Ok : goal.returns-in-Ok
+returns-in-Ok c =
+    let a = c.args in
+    rw c.in_numbers.ensures
+    (explained-stored a.board.now a.settings.now a.sample.now c.step-next.result c.step-next.ensures.value a.explained.now c.in-Ok.given c.in-Ok.is)
 
-pub returns : goal.returns
-returns c =
-    explained-stored c.args.board.now c.args.settings.now c.args.sample.now c.args.explained.now c.explained_call-next.result c.explained_call-next.ensures
-    (omega (arith, c.if-next-ne0.false))
+pub returns-in-Err : goal.returns-in-Err
+returns-in-Err c =
+    let a = c.args in
+    rw c.from.ensures
+    (explained-kept a.board.now a.settings.now a.sample.now c.step-next.result c.step-next.ensures.value a.explained.now c.in-Err.cause c.in-Err.is)

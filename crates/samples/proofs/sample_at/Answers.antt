@@ -1,40 +1,41 @@
 -- `samples::sample_at` meets its contract: what the fast reader finds is the sample line; where nothing is, a match that ends at a line
 -- feed is an ended sample line, and no other is.
 -- Assumes nothing.
-use mathlib.Core.Path.{refl}
-use Rattle.rules.specs.Forms.{sheet_forms, sample_form}
-use lib.ListN.{drop}
+use Rattle.std.proofs.Common.{◌≡◌, sym, ◌∙◌, ◌<◌, ◌≤◌, length, rules, slice_index_or}
 use Rattle.formats.specs.Marks.{forms}
-use Rattle.matching.specs.Forms.{take_form}
-use Rattle.samples.proofs.Samples.{at-feed, at-nothing, at-past, at_other, sample-found, sample-none}
+use Rattle.rules.specs.Forms.{sheet_forms}
 use Rattle.text.proofs.Made.{made_at}
-use borrow.Author.Rules.{rules}
+use Rattle.samples.proofs.Samples.{at-feed, at-nothing, at-past, at_other, sample-found, sample-none}
 use Rattle.samples.proofs.sample_at.Goals as goal
 
-pub match_at-m-requires : goal.match_at-m-requires
+pub match_at-requires : goal.match_at-requires
 unfolding forms sheet_forms
-match_at-m-requires c = (rw c.requires.0 (made_at 13).few, c.requires.1)
+match_at-requires c = (rw c.sample_form.ensures (made_at 13).few, c.requires)
 
-pub returns-then-s-next-eq10 : goal.returns-then-s-next-eq10
-returns-then-s-next-eq10 c =
-    let e = at-feed c.args.s.now c.args.at c.match_at-m.result c.requires.1 (take_form sample_form (drop c.args.at c.args.s.now)) refl
-    (rw c.requires.0 at c.match_at-m.ensures) c.if-m.true c.if-next-s.true c.if-s-next-eq10.true in
-    sample-found c.args.s.now c.args.at c.match_at-m.result c.requires.1 c.sample_slice.result e c.sample_slice.ensures
+pub returns-in_err-m : goal.returns-in_err-m
+returns-in_err-m c =
+    c.from_residual.ensures ∙ sample-none c.args.s.now c.args.at (at-nothing c.args.s.now c.args.at (rw c.sample_form.ensures at c.in_err-m.ensures))
 
-pub returns-else-s-next-eq10 : goal.returns-else-s-next-eq10
-returns-else-s-next-eq10 c =
-    sample-none c.args.s.now c.args.at c.match_at-m.result c.requires.1
-    (at_other c.args.s.now c.args.at c.match_at-m.result c.requires.1 (take_form sample_form (drop c.args.at c.args.s.now)) refl
-    (rw c.requires.0 at c.match_at-m.ensures) c.if-m.true c.if-next-s.true c.if-s-next-eq10.false)
+pub returns-in_err-get : goal.returns-in_err-get
+returns-in_err-get c =
+    let m = c.in_ok-m in
+    let e = rw c.sample_form.ensures at m.ensures in
+    let past : length c.args.s.now ≤ m.m.next = search rules in
+    c.from_residual-in_err-get.ensures ∙ sample-none c.args.s.now c.args.at (at-past c.args.s.now c.args.at m.m c.requires e past)
 
-pub returns-else-next-s : goal.returns-else-next-s
-returns-else-next-s c =
-    sample-none c.args.s.now c.args.at c.match_at-m.result c.requires.1
-    (at-past c.args.s.now c.args.at c.match_at-m.result c.requires.1 (take_form sample_form (drop c.args.at c.args.s.now)) refl
-    (rw c.requires.0 at c.match_at-m.ensures) c.if-m.true c.if-next-s.false)
+pub returns-then-branch-ne10 : goal.returns-then-branch-ne10
+returns-then-branch-ne10 c =
+    let m = c.in_ok-m in
+    let e = rw c.sample_form.ensures at m.ensures in
+    let inside : m.m.next < length c.args.s.now = search rules in
+    let same : c.in_ok-get.field-0.now ≡ slice_index_or c.args.s.now m.m.next 0 = search rules in
+    sample-none c.args.s.now c.args.at (at_other c.args.s.now c.args.at m.m c.requires e inside (λ q. c.if-branch-ne10.true (same ∙ q)))
 
-pub returns-else-m : goal.returns-else-m
-returns-else-m c =
-    sample-none c.args.s.now c.args.at c.match_at-m.result c.requires.1
-    (at-nothing c.args.s.now c.args.at c.match_at-m.result c.requires.1 (take_form sample_form (drop c.args.at c.args.s.now)) refl
-    (rw c.requires.0 at c.match_at-m.ensures) c.if-m.false)
+pub returns : goal.returns
+returns c =
+    let m = c.in_ok-m in
+    let e = rw c.sample_form.ensures at m.ensures in
+    let inside : m.m.next < length c.args.s.now = search rules in
+    let same : c.in_ok-get.field-0.now ≡ slice_index_or c.args.s.now m.m.next 0 = search rules in
+    sample-found c.args.s.now c.args.at m.m c.sample_slice.result
+    (at-feed c.args.s.now c.args.at m.m c.requires e inside (sym same ∙ c.if-branch-ne10.false)) c.sample_slice.ensures

@@ -11,7 +11,6 @@ use borrow.Author.Tests.{le-leb, lt-leb}
 use Rattle.rules.specs.Sensing.{sensed_by, last_code}
 use Rattle.rules.specs.Regions.{equipped_with}
 use Rattle.rules.specs.Refusals.{sensed_number}
-use Rattle.rules.specs.declared.Sensed.{Sensed}
 use Rattle.causes.specs.FirstCause.{cause, first}
 use Rattle.laws.proofs.FirstCause.{sense-number}
 use Rattle.sensing.proofs.sense_by.Goals as goal

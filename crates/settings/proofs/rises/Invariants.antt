@@ -16,7 +16,4 @@ use Rattle.settings.proofs.Steps.{rise-more, rise-end}
 use Rattle.settings.proofs.rises.Given as goal
 
 abbrev pub invariant-loop-k : goal.invariant-loop-k
-invariant-loop-k l = (l.k ≤ l.last) × (rising (settings_line l.s l.line) ≡ rising (drop l.k (settings_line l.s l.line)))
-
-abbrev pub decreases-loop-k : goal.decreases-loop-k
-decreases-loop-k l = l.last - l.k
+invariant-loop-k l = rising (settings_line l.s l.line) ≡ rising (drop (l.k - 1) (settings_line l.s l.line))

@@ -11,16 +11,16 @@ returns-then-start-n c =
     let a = c.args in
     record { bytes = past-part a.s.now a.check a.start (omega arith); block = refl; place = omega arith }
 
-pub returns-in-Refused : goal.returns-in-Refused
-returns-in-Refused c =
+pub returns-in-Err : goal.returns-in-Err
+returns-in-Err c =
     let a = c.args in
     let end = c.line_end-end in
     record {
-      bytes = line-part a.s.now a.check a.start _ _ end.result c.in-Refused.is end.ensures.value;
+      bytes = line-part a.s.now a.check a.start _ _ end.result c.in-Err.is end.ensures.value;
       block = refl;
       place = omega arith;
     }
 
-pub slice_bounds-result-end-in-Refused : goal.slice_bounds-result-end-in-Refused
-slice_bounds-result-end-in-Refused c =
+pub slice_bounds-result-end-in-Err : goal.slice_bounds-result-end-in-Err
+slice_bounds-result-end-in-Err c =
     line-inside c.args.s.now c.args.start c.line_end-end.result (omega arith) c.line_end-end.ensures.value

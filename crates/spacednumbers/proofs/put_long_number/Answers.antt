@@ -1,6 +1,5 @@
 -- `spacednumbers::put_long_number` meets its contract: a space, and the number.
 -- Assumes nothing.
-use borrow.Author.Rules.{rules}
 use native.Mathlib.Omega.{arith}
 use Rattle.buffers.proofs.Writing.{and_then}
 use Rattle.rules.specs.Text.{signed_decimal}

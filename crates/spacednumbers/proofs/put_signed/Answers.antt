@@ -1,6 +1,5 @@
 -- `spacednumbers::put_signed` meets its contract: a minus where negative, and the magnitude.
 -- Assumes nothing.
-use borrow.Author.Rules.{rules}
 use mathlib.Core.Path.{◌≡◌, refl, ◌∙◌}
 use mathlib.Core.Bool.{true, false}
 use mathlib.Core.List.{[], ◌∷◌, ◌++◌}
@@ -35,10 +34,10 @@ module _ (v : ℤ) (f : SFits w16 v) (n : ℕ) (e : n ≡ nat_abs (to_z w16 (of_
 
 pub returns-then-v-lt0 : goal.returns-then-v-lt0
 returns-then-v-lt0 c =
-    rw (negative c.args.v c.ranges.v c.magnitude-n.result c.magnitude-n.ensures c.if-v-lt0.true)
+    rw (negative c.args.v c.ranges.v c.from-n.result (c.from-n.ensures ∙ c.unsigned_abs.ensures.value) c.if-v-lt0.true)
     (and_then c.put_byte-a.ensures c.put_decimal.ensures.wrote)
 
 pub returns : goal.returns
 returns c =
-    rw (positive c.args.v c.ranges.v c.magnitude-n.result c.magnitude-n.ensures c.if-v-lt0.false)
+    rw (positive c.args.v c.ranges.v c.from-n.result (c.from-n.ensures ∙ c.unsigned_abs.ensures.value) c.if-v-lt0.false)
     c.put_decimal-2.ensures.wrote

@@ -1,6 +1,5 @@
 -- `spacednumbers::put_signed_number` meets its contract: a space, and the signed number.
 -- Assumes nothing.
-use borrow.Author.Rules.{rules}
 use Prim.Native.Nat.{◌^◌, ◌<◌}
 use native.Mathlib.Omega.{arith}
 use lib.IntN.{ℤ, nat_abs}

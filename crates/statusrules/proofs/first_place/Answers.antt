@@ -1,23 +1,23 @@
--- `statusrules::first_place` meets its contract. The loop's invariant: the place that is sought is the one from here on (`Places.antt`).
+-- `statusrules::first_place` meets its contract: the zeros that lead the bits tell the place (`Places.antt`).
 -- Assumes nothing.
-use mathlib.Core.Path.{◌≡◌, refl, sym, ◌∙◌}
-use Prim.Native.Nat.{◌-◌, ◌≤◌}
-use native.Mathlib.Omega.{arith}
-use Rattle.statusrules.specs.Places.{placed}
-use Rattle.statusrules.proofs.Places.{placed-here, placed_on, placed-none}
+use Rattle.std.proofs.Common.{sym, arith}
+use Rattle.statusrules.proofs.Places.{leads-packed}
 use Rattle.statusrules.proofs.first_place.Goals as goal
 
-pub returns-then-left-ge256 : goal.returns-then-left-ge256
-returns-then-left-ge256 c =
-    let turn = c.loop-place in
-    sym (placed-here turn.place turn.left (omega arith) (omega arith)) ∙ turn.invariant.2
+pub returns-in-7-to-14 : goal.returns-in-7-to-14
+returns-in-7-to-14 c =
+    λ trips ready eight e.
+    let l = leads-packed c.args.bits trips ready eight e in
+    omega (arith, l.some (omega arith))
 
-pub loop-place-preserved : goal.loop-place-preserved
-loop-place-preserved c =
-    let turn = c.loop-place in
-    (omega arith, omega arith, placed_on turn.place turn.left (omega arith) (omega arith) ∙ turn.invariant.2)
+pub returns-in_default : goal.returns-in_default
+returns-in_default c =
+    λ trips ready eight e.
+    let l = leads-packed c.args.bits trips ready eight e in
+    absurd (omega (arith, l.from))
 
-pub returns : goal.returns
-returns c =
-    let turn = c.loop-place in
-    sym (placed-none turn.place turn.left (omega arith)) ∙ turn.invariant.2
+pub returns-in_default-2 : goal.returns-in_default-2
+returns-in_default-2 c =
+    λ trips ready eight e.
+    let l = leads-packed c.args.bits trips ready eight e in
+    sym (l.none (omega arith))

@@ -10,7 +10,6 @@ use Rattle.readings.specs.declared.reading.Reading.{Reading}
 use Rattle.readings.specs.Readings.{reading_of}
 use Rattle.statusrules.specs.StatusRules.{first_worst, region_cause}
 use Rattle.reasons.specs.declared.StatusRule.{StatusRule}
-use Rattle.statusrules.proofs.Places.{placed_first}
 use borrow.Author.Rules.{rules}
 use Rattle.statusrules.proofs.status_rule.Goals as goal
 
@@ -34,4 +33,4 @@ returns c =
     λ e st x trips ready regions q eight e₁.
     let permit = ap (λ (y : Reading). y.permit) q ∙ not-false a.r.permit c.if-not-r.false in
     rw (c.if-not-was-2.false, c.if-on.false, permit)
-    (ap (λ (n : ℕ). StatusRule.TripLimit n) (c.first_place.ensures ∙ placed_first a.bits trips ready eight e₁))
+    (ap (λ (n : ℕ). StatusRule.TripLimit n) (c.first_place.ensures trips ready eight e₁))

@@ -9,9 +9,9 @@ use Rattle.storing.specs.Stores.{with_numbers}
 use borrow.Author.Rules.{rules}
 use Rattle.storing.proofs.with_numbers.Goals as goal
 
-pub returns-then-i-lt8 : goal.returns-then-i-lt8
+pub returns-in-0-to-7 : goal.returns-in-0-to-7
 unfolding with_numbers
-returns-then-i-lt8 c =
+returns-in-0-to-7 c =
     rw (
       lt-ltb c.args.i 8 (omega arith),
       ne_eqb c.args.i 8 (λ e. omega arith),
@@ -71,9 +71,9 @@ returns-in-10 c =
 pub returns-in-11 : goal.returns-in-11
 unfolding with_numbers
 returns-in-11 c =
-    let here : c.args.i ≡ 11 = search rules in rw (here, c.four_points-var.ensures)
+    let here : c.args.i ≡ 11 = search rules in rw (here, c.points-next.ensures)
 
 pub returns-in_default : goal.returns-in_default
 unfolding with_numbers
 returns-in_default c =
-    let here : c.args.i ≡ 12 = omega arith in rw (here, c.two_points-watt.ensures)
+    let here : c.args.i ≡ 12 = omega arith in rw (here, c.points-next-in_default.ensures)

@@ -1,23 +1,23 @@
 -- `text::form_numbers` meets its contract: a match that ends where the line does has the line's numbers.
 -- Assumes nothing.
-use mathlib.Core.Path.{◌∙◌, sym, ap}
+use Rattle.std.proofs.Common.{sym, ◌∙◌, arith}
 use Rattle.formats.specs.Marks.{form_at}
-use Rattle.matching.specs.Forms.{take_form}
-use Rattle.text.specs.Lines.{numbers_read}
-use Rattle.text.proofs.Whole.{numbers-whole, match-whole, match-short}
-use borrow.Author.Rules.{rules}
+use Rattle.text.proofs.Made.{made_at}
+use Rattle.text.proofs.Whole.{match-none, match-whole, match-short}
 use Rattle.text.proofs.form_numbers.Goals as goal
 
-pub returns-then-next-line : goal.returns-then-next-line
-returns-then-next-line c =
-    let a = c.args in
-    let m = c.form_at-m in
-    match-whole a.line.now m.result (take_form (form_at a.form) a.line.now) m.ensures c.if-next-line.true
-    ∙ ap numbers_read (sym (numbers-whole (form_at a.form) a.line.now))
+pub match_at-requires : goal.match_at-requires
+match_at-requires c = (rw c.form.ensures (made_at c.args.i).few, omega arith)
+
+pub returns-in_err-m : goal.returns-in_err-m
+returns-in_err-m c = c.from_residual.ensures ∙ sym (match-none (form_at c.args.i) c.args.line.now (rw c.form.ensures at c.in_err-m.ensures))
+
+pub returns-then-m-line : goal.returns-then-m-line
+returns-then-m-line c =
+    let e = rw c.form.ensures at c.in_ok-m.ensures in
+    sym (match-short (form_at c.args.i) c.args.line.now c.in_ok-m.m e c.if-m-line.true)
 
 pub returns : goal.returns
 returns c =
-    let a = c.args in
-    let m = c.form_at-m in
-    match-short a.line.now m.result (take_form (form_at a.form) a.line.now) m.ensures c.if-next-line.false
-    ∙ ap numbers_read (sym (numbers-whole (form_at a.form) a.line.now))
+    let e = rw c.form.ensures at c.in_ok-m.ensures in
+    sym (match-whole (form_at c.args.i) c.args.line.now c.in_ok-m.m e c.if-m-line.false)

@@ -11,7 +11,10 @@ pub returns : goal.returns
 returns c =
     let a = c.args in
     λ e x q left.
-    let not-share = c.if-report-watts.false in
-    let last = left-past-share e a.s x a.r q a.report.share a.report.recovery a.report.watts a.report.vars c.if-r-watts.false c.if-r-watts-2.false not-share left in
-    rw (widened a.report.vars c.requires.2) at c.last_rule.ensures e x a.report.recovery q last
-    ∙ past-share e a.s x a.r q a.report.share a.report.recovery a.report.watts a.report.vars c.if-r-watts.false c.if-r-watts-2.false not-share
+    let w = c.from-watts.ensures in
+    let not-share = rw (c.from.ensures, w) at c.if-from-watts.false in
+    let not-available = rw w at c.if-r-watts.false in
+    let not-operator = rw w at c.if-r-watts-2.false in
+    let last = left-past-share e a.s.settings x a.r q a.report.share a.report.recovery a.report.watts a.report.vars not-available not-operator not-share left in
+    rw (c.from-2.ensures, widened a.report.vars c.requires.2, w) at c.last_rule.ensures e x a.report.recovery q last
+    ∙ past-share e a.s.settings x a.r q a.report.share a.report.recovery a.report.watts a.report.vars not-available not-operator not-share

@@ -14,7 +14,7 @@ returns c =
     let a = c.args in
     λ e x q left.
     let more : a.report.watts < min (drooped a.r.frequency a.report.held) a.r.available
-    = rw c.within_droop.ensures at c.if-within_droop-watts.false in
-    let last = left-past-droop e a.s x a.r q a.report.held a.report.recovery a.report.watts a.report.vars more left in
-    rw (widened a.report.vars c.requires.2) at c.last_rule.ensures e x a.report.recovery q last
-    ∙ past-droop e a.s x a.r q a.report.held a.report.recovery a.report.watts a.report.vars more
+    = rw (c.within_droop.ensures, c.from-watts.ensures) at c.if-within_droop-watts.false in
+    let last = left-past-droop e a.s.settings x a.r q a.report.held a.report.recovery a.report.watts a.report.vars more left in
+    rw (c.from.ensures, widened a.report.vars c.requires.2, c.from-watts.ensures) at c.last_rule.ensures e x a.report.recovery q last
+    ∙ past-droop e a.s.settings x a.r q a.report.held a.report.recovery a.report.watts a.report.vars more

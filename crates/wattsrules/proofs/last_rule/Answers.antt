@@ -19,4 +19,4 @@ one_more p watts vars small e = e ∙ ap (λ (z : ℤ). min (watts + 1) (namepla
 
 pub volt_watt-requires : goal.volt_watt-requires
 volt_watt-requires c =
-    (watt-rises c.args.s c.requires.0, watt-not-negatives c.args.s c.requires.0)
+    (watt-rises c.args.s.settings c.args.s.sheet, watt-not-negatives c.args.s.settings c.args.s.sheet)

@@ -20,14 +20,16 @@ promised : (e : Equipment) (b : Board) (s : Settings) (x : Slice) (t : Explained
     → (t ≡ explained_step e b s x) × (explained_number t.answer ≡ first (settings_causes s ++ sample_causes x))
 promised e b s x t is = (is, ap (λ (u : ExplainedStep). explained_number u.answer) is ∙ explained-number e b s x)
 
-pub returns-in-Refused : goal.returns-in-Refused
-returns-in-Refused c =
+pub returns-in-Err : goal.returns-in-Err
+returns-in-Err c =
     let e = equipped_with c.args.table.now in
     let p = promised e c.args.b c.args.s c.args.x.now _
-    (sym (explained-refused e c.args.b c.args.s c.args.x.now _ _ (sym c.in-Refused.ensures.value))) in
+    (sym (explained-refused e c.args.b c.args.s c.args.x.now _ _ c.in-Err.ensures.refused)) in
     record { value = p.0; answer_value = p.1 }
 
-pub returns-in-Accepted : goal.returns-in-Accepted
-returns-in-Accepted c =
-    let p = promised (equipped_with c.args.table.now) c.args.b c.args.s c.args.x.now _ c.explained.ensures in
+pub returns-in-Ok : goal.returns-in-Ok
+returns-in-Ok c =
+    let e = equipped_with c.args.table.now in
+    let is = c.explained.ensures ∙ ap (λ (s : Settings). explained_step e c.args.b s c.args.x.now) c.in-Ok.ensures.accepted.0 in
+    let p = promised e c.args.b c.args.s c.args.x.now _ is in
     record { value = p.0; answer_value = p.1 }

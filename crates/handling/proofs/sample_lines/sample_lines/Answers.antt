@@ -1,65 +1,41 @@
 -- `handling::sample_lines::sample_lines` meets its contract. The loop's invariant: what is said from here on is what was to be said from h on
 -- (`SampleLines.antt`).
 -- Assumes nothing.
-use mathlib.Core.Path.{sym, ◌∙◌, subst}
-use native.Mathlib.Omega.{arith}
+use Rattle.std.proofs.Common.{arith}
 use Rattle.rules.specs.Regions.{equipped_with}
-use Rattle.handling.proofs.SampleLines.{Going, here, beginning, stops, next-is, goes_on}
+use Rattle.handling.proofs.SampleLines.{beginning, stops_full, stops_open, next-is, goes_on}
 use Rattle.handling.proofs.sample_lines.sample_lines.Goals as goal
+use Rattle.handling.proofs.sample_lines.sample_lines.Goals.{else-loop-out-test, then-loop-out-test+in_default}
 
-pub loop-going-init : goal.loop-going-init
-loop-going-init c =
+pub loop-out-init : goal.loop-out-init
+loop-out-init c =
     beginning (equipped_with c.args.table.now) c.args.s.now c.args.out.now c.args.h c.requires.0 c.requires.1 c.requires.2 c.requires.3
 
-pub loop-going-smaller-then-going : goal.loop-going-smaller-then-going
-loop-going-smaller-then-going c =
-    let w = c.loop-going in
+pub loop-out-preserved : goal.loop-out-preserved
+loop-out-preserved c =
+    let l = c.loop-out in
     let a = c.args in
-    let s = a.s.now in
-    let d = a.out.now in
-    let e = equipped_with a.table.now in
-    let at = here a.h w.board w.line w.overlong w.at w.w in
-    let test = c.loop-going-test.true in
-    let before = subst (Going e s d a.h w.out at) test w.invariant in
-    let x = c.line_at-x in
-    let fits = sym c.answerable-going.ensures ∙ c.if-going.true in
-    let next = next-is e s d a.h w.out w.board w.line w.overlong w.at w.w before x.result x.ensures fits in
     let r = c.answer_to-r in
-    let put = c.put_answer-w.ensures in
-    let on = goes_on e s d a.h w.out w.board w.line w.overlong w.at w.w before x.result x.ensures fits r.result r.ensures _ _ put in
-    rw (
-      c.if-going.true,
-      c.loop-going-test.true,
-    ) (omega (arith, next, on.carried.stands.inside))
+    goes_on (equipped_with a.table.now) a.s.now a.out.now a.h l.out l.board l.line l.overlong l.at l.w l.invariant c.in-Some.x c.in-Some.ensures
+    c.loop-out-test.true r.result (r.ensures a.h.state.settings (c.accept-accepted.ensures.accepted, c.accept-accepted.ensures.refused)) _ _ c.put_answer-w.ensures
 
-pub loop-going-preserved-then-going : goal.loop-going-preserved-then-going
-loop-going-preserved-then-going c =
-    let w = c.loop-going in
+pub loop-out-smaller : goal.loop-out-smaller
+loop-out-smaller c =
+    let l = c.loop-out in
     let a = c.args in
-    let s = a.s.now in
-    let d = a.out.now in
-    let e = equipped_with a.table.now in
-    let at = here a.h w.board w.line w.overlong w.at w.w in
-    let test = c.loop-going-test.true in
-    let before = subst (Going e s d a.h w.out at) test w.invariant in
-    let x = c.line_at-x in
     let r = c.answer_to-r in
-    let on = c.if-going.true in
-    let fits = sym c.answerable-going.ensures ∙ on in
-    let put = c.put_answer-w.ensures in
-    rw on
-    (goes_on e s d a.h w.out w.board w.line w.overlong w.at w.w before x.result x.ensures fits r.result r.ensures _ _ put)
-
-pub loop-going-preserved : goal.loop-going-preserved
-loop-going-preserved c =
-    let w = c.loop-going in
-    let a = c.args in
-    let s = a.s.now in
-    let d = a.out.now in
     let e = equipped_with a.table.now in
-    let at = here a.h w.board w.line w.overlong w.at w.w in
-    let test = c.loop-going-test.true in
-    let before = subst (Going e s d a.h w.out at) test w.invariant in
-    let x = c.line_at-x in
-    let full = sym c.answerable-going.ensures ∙ c.if-going.false in
-    rw c.if-going.false (stops e s d a.h w.out w.board w.line w.overlong w.at w.w before x.result x.ensures full)
+    let next = next-is e a.s.now a.out.now a.h l.out l.board l.line l.overlong l.at l.w l.invariant c.in-Some.x c.in-Some.ensures c.loop-out-test.true in
+    let on = goes_on e a.s.now a.out.now a.h l.out l.board l.line l.overlong l.at l.w l.invariant c.in-Some.x c.in-Some.ensures
+    c.loop-out-test.true r.result (r.ensures a.h.state.settings (c.accept-accepted.ensures.accepted, c.accept-accepted.ensures.refused)) _ _ c.put_answer-w.ensures in
+    omega (arith, next, on.stands.inside)
+
+pub returns-clause-stuck : goal.returns-clause-stuck
+returns-clause-stuck c =
+    let l = c.loop-out in
+    let a = c.args in
+    let e = equipped_with a.table.now in
+    elim c.loop-out-test.branch [
+      | else-loop-out-test w ↦ stops_full e a.s.now a.out.now a.h l.out l.board l.line l.overlong l.at l.w l.invariant w.loop-out-test.false
+      | then-loop-out-test+in_default w ↦ stops_open e a.s.now a.out.now a.h l.out l.board l.line l.overlong l.at l.w l.invariant w.in_default.ensures
+    ]

@@ -1,6 +1,5 @@
 -- `pieces::copies::put_byte` meets its contract: a store is a write of one byte.
 -- Assumes nothing.
-use borrow.Author.Rules.{rules}
 use mathlib.Core.Path.{refl}
 use mathlib.Core.List.{[], ◌∷◌}
 use native.Mathlib.Omega.{arith}

@@ -12,7 +12,7 @@ use Rattle.service.proofs.step.advance.Goals as goal
 
 pub region-area-requires : goal.region-area-requires
 region-area-requires c =
-    λ t. continuous c.args.r c.args.s c.requires.sheet (sym c.in_range-inside.ensures ∙ t)
+    λ t. continuous c.args.r c.args.s.settings c.args.s.sheet (sym c.in_range-inside.ensures ∙ t)
 
 pub returns : goal.returns
 returns c =
@@ -33,7 +33,7 @@ returns c =
       side = c.side_after-side.result;
       held = c.held_after-held.result;
     } in
-    let promised : Promised a.s a.r a.b found
+    let promised : Promised a.s.settings a.r a.b found
     = record {
       counts = c.count_all-c.ensures.n_value;
       marks = c.count_all-c.ensures.bits_value;
@@ -47,7 +47,7 @@ returns c =
       sided = c.side_after-side.ensures.value;
       holds = c.held_after-held.ensures;
     } in
-    let region-is = region-found e a.s x a.r regions q a.b nine found promised in
-    let bits = bits-found e a.s x a.r regions q a.b nine found promised in
+    let region-is = region-found e a.s.settings x a.r regions q a.b nine found promised in
+    let bits = bits-found e a.s.settings x a.r regions q a.b nine found promised in
     c.settle.ensures e x q region-is bits
-    ∙ ap (reported e a.s) (advance-is e a.s x a.r regions q a.b nine found promised)
+    ∙ ap (reported e a.s.settings) (advance-is e a.s.settings x a.r regions q a.b nine found promised)

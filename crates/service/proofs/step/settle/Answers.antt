@@ -16,7 +16,7 @@ use Rattle.service.proofs.step.settle.Goals as goal
 pub share-part-requires : goal.share-part-requires
 unfolding rows
 share-part-requires c =
-    let k = sheet-rows c.args.s c.requires.0.sheet in (omega arith, omega arith, omega arith)
+    let k = sheet-rows c.args.s.settings c.args.s.sheet in (omega arith, omega arith, omega arith)
 
 -- one equation for each field that is worked out here
 pub returns : goal.returns

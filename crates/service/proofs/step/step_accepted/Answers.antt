@@ -12,20 +12,20 @@ use Rattle.service.proofs.step.step_accepted.Goals as goal
 
 pub advance-requires : goal.advance-requires
 advance-requires c =
-    let ok : sample_accepted c.args.x.now ≡ true = ap sample_passed (sym c.in-Accepted.ensures) in
+    let ok : sample_accepted c.args.x.now ≡ true = ap sample_passed (sym c.in-Ok.ensures) in
     let right = sample-right c.args.x.now ok in
-    rw c.read.ensures (record { sheet = c.requires.1; frequency-top = right.frequency-high; available-top = right.available-top; limit-top = right.limit-top })
+    rw c.read.ensures (record { frequency-top = right.frequency-high; available-top = right.available-top; limit-top = right.limit-top })
 
-pub returns-in-Refused : goal.returns-in-Refused
-returns-in-Refused c =
+pub returns-in-Err : goal.returns-in-Err
+returns-in-Err c =
     let e = equipped_with c.args.table.now in
-    let refused = sym c.in-Refused.ensures in
-    sym (sample-refused e c.args.s c.args.x.now c.args.b _ c.requires.1 refused)
+    let refused = sym c.in-Err.ensures in
+    sym (sample-refused e c.args.s.settings c.args.x.now c.args.b _ c.args.s.sheet refused)
 
-pub returns-in-Accepted : goal.returns-in-Accepted
-returns-in-Accepted c =
+pub returns-in-Ok : goal.returns-in-Ok
+returns-in-Ok c =
     let ok : sample_accepted c.args.x.now ≡ true
-    = ap sample_passed (sym c.in-Accepted.ensures) in
+    = ap sample_passed (sym c.in-Ok.ensures) in
     let e = equipped_with c.args.table.now in
     c.advance.ensures e c.args.x.now refl (sym c.read.ensures)
-    ∙ sym (accepted-step e c.args.b c.args.s c.args.x.now c.requires.1 ok)
+    ∙ sym (accepted-step e c.args.b c.args.s.settings c.args.x.now c.args.s.sheet ok)

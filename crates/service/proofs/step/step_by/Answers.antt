@@ -1,5 +1,6 @@
 -- `service::step::step_by` meets its contract: refused settings change nothing, and under accepted ones the sample decides.
 -- Assumes nothing.
+use Rattle.std.specs.Prelude.{Err}
 use mathlib.Core.Path.{◌≡◌, sym, ap, ◌∙◌}
 use mathlib.Core.List.{◌++◌}
 use Rattle.rules.specs.Settings.{settings_passed}
@@ -7,7 +8,6 @@ use Rattle.rules.specs.Regions.{equipped_with}
 use Rattle.rules.specs.Samples.{Slice, Equipment}
 use Rattle.rules.specs.Refusals.{answer_number}
 use Rattle.rules.specs.Records.{step_of}
-use Rattle.rules.specs.declared.Answer.{Answer}
 use Rattle.rules.specs.declared.Board.{Board}
 use Rattle.rules.specs.declared.Settings.{Settings}
 use Rattle.rules.specs.declared.Stepped.{Stepped}
@@ -22,17 +22,17 @@ numbered : (e : Equipment) (b : Board) (s : Settings) (x : Slice) (t : Stepped) 
     → answer_number t.answer ≡ first (settings_causes s ++ sample_causes x)
 numbered e b s x t is = ap (λ (u : Stepped). answer_number u.answer) is ∙ step-number e b s x
 
-pub returns-in-Refused : goal.returns-in-Refused
-returns-in-Refused c =
+pub returns-in-Err : goal.returns-in-Err
+returns-in-Err c =
     let e = equipped_with c.args.table.now in
-    let t : Stepped = record { board = c.args.b; answer = Answer.Refused c.in-Refused.cause } in
+    let t : Stepped = record { board = c.args.b; answer = Err c.in-Err.refused.cause } in
     let is : t ≡ step_of e c.args.b c.args.s c.args.x.now
-    = sym (settings-refused e c.args.s c.args.x.now c.args.b _ _ (sym c.in-Refused.ensures.value)) in
+    = sym (settings-refused e c.args.s c.args.x.now c.args.b _ _ c.in-Err.ensures.refused) in
     record { value = is; answer_value = numbered e c.args.b c.args.s c.args.x.now t is }
 
-pub returns-in-Accepted : goal.returns-in-Accepted
-returns-in-Accepted c =
-    record {
-      value = c.step_accepted.ensures;
-      answer_value = numbered (equipped_with c.args.table.now) c.args.b c.args.s c.args.x.now _ c.step_accepted.ensures;
-    }
+pub returns-in-Ok : goal.returns-in-Ok
+returns-in-Ok c =
+    let e = equipped_with c.args.table.now in
+    let is : c.step_accepted.result ≡ step_of e c.args.b c.args.s c.args.x.now
+    = c.step_accepted.ensures ∙ ap (λ (s : Settings). step_of e c.args.b s c.args.x.now) c.in-Ok.ensures.accepted.0 in
+    record { value = is; answer_value = numbered e c.args.b c.args.s c.args.x.now _ is }

@@ -1,6 +1,6 @@
 -- `text::table::sample_form` meets its contract, by computing.
 -- Assumes nothing.
-use mathlib.Core.Path.{refl}
+use Rattle.std.proofs.Common.{refl}
 use Rattle.rules.specs.Forms.{sample_form}
 use Rattle.text.proofs.table.sample_form.Goals as goal
 

@@ -1,6 +1,0 @@
--- `show_bytes` ends after the last byte.
-use Rattle.std.proofs.Common.{length, ◌-◌}
-use Rattle.cases.proofs.show_bytes.Given as goal
-
-abbrev pub decreases-loop-i : goal.decreases-loop-i
-decreases-loop-i g l = length l.bytes - l.i
