@@ -14,6 +14,8 @@ const COUNTERS_TYPE: &str = "counters : [ u32 ; 9 ]";
 const PRIMITIVES: [&str; 13] = ["u8", "u16", "u32", "u64", "usize", "i8", "i16", "i32", "i64", "isize", "bool", "f32", "f64"];
 /// What of the language makes nothing but a number.
 const METHODS: [&str; 1] = ["len"];
+/// The variants of the language's Result, which hold what they are given.
+const VARIANTS: [&str; 2] = ["Ok", "Err"];
 const CONSTANTS: [&str; 2] = ["MAX", "MIN"];
 /// Words that stand in no body of a function that can be followed.
 const OUTSIDE: [&str; 7] = ["use", "mod", "ghost", "requires", "ensures", "impl", "trait"];
@@ -215,7 +217,8 @@ impl<'a> Look<'a> {
         let called = tokens.get(end).is_some_and(|t| t.is("(") || t.is("!") || t.is("::"));
         let capital = path[0].starts_with(char::is_uppercase);
         let front = self.before(at, 1).is_some_and(|t| t.is("::"));
-        let led = self.names.leads(&self.item.module, &path) && !front;
+        let variant = path.len() == 1 && VARIANTS.contains(&path[0].as_str()) && self.names.items(self.krate(), &path[0]).is_empty();
+        let led = (variant || self.names.leads(&self.item.module, &path)) && !front;
         self.leads.extend(path.iter().flat_map(|name| self.names.items(&self.item.module[0], name)));
         // a single small name that is not called may be a local, a parameter, a field
         if !led && (called || capital || front || path.len() > 1) {

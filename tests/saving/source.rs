@@ -191,6 +191,9 @@ fn logic(text: &[char], at: usize, word: &str) -> Option<usize> {
         return (!["--", "{-", "\"", "«"].iter().any(|m| said.contains(m))).then_some(end);
     }
     let open = spaces(after);
+    // a ghost field, `ghost name: { .. }`, and a ghost member of an `impl`, `ghost name = { .. }`
+    let named = word == "ghost" && matches!(text.get(open), Some('=' | ':'));
+    let open = if named { spaces(open + 1) } else { open };
     if text.get(open) == Some(&'{') {
         contract(text, open)
     } else {

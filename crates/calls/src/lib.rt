@@ -8,7 +8,7 @@ ghost use Rattle.rules.specs.Images.{save_check, saved_into};
 ghost use Rattle.calls.specs.ImageCalls.{ForwardLeaves, BackLeaves};
 
 use carryover::{CarryAnswer, carry_number};
-use rules::Board;
+use rules::{Board, refusal_number};
 
 // What a replay answers: 0, or the refusal's number; and how many samples were accepted.
 #[repr(C)]
@@ -45,6 +45,6 @@ pub fn save_number(b: Board, out: &mut [u8]) -> u32
 {
     match image::save(b, out) {
         Ok(()) => 0,
-        Err(cause) => u32::from(cause),
+        Err(cause) => refusal_number(cause) as u32,
     }
 }

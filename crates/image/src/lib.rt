@@ -15,7 +15,7 @@ fn put_image(out: &mut [u8], b: Board)
     requires { image_length ≤ length out.old }
     ensures { out.new ≡ written out.old 0 (image b) }
 {
-    let mut at = put_field(out, 0, 1, u32::from(b.status));
+    let mut at = put_field(out, 0, 1, b.status as u32);
     at = put_counters(out, at, b);
     at = put_field(out, at, 4, b.ramp);
     at = put_powers(out, at, b.watts, b.vars);

@@ -23,7 +23,7 @@ returns c =
     let signed : SFits w16 c.args.b.vars = search rules in
     let vars = ap (λ (v : ℤ). field 2 c.args.b.watts ∷ field 2 (twos_complement v) ∷ event_fields c.args.b) (to_z-of_z signed) in
     let all : Wrote _ 0 _ _ (field_bytes (image_fields c.args.b))
-    = and-fields _ _ refl (rw c.from.ensures at c.put_field-at.ensures.wrote)
+    = and-fields _ _ refl c.put_field-at.ensures.wrote
     (and-fields _ _ refl c.put_counters-at.ensures.wrote
     (and-fields _ _ refl c.put_field-at-2.ensures.wrote
     (and-fields _ _ vars c.put_powers-at.ensures.wrote c.put_event.ensures))) in
