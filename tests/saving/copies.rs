@@ -73,7 +73,7 @@ const ABOVE: Place = (IMAGE, "// The image at the front of a buffer that has roo
 const THERE: Place = (RULES, "// A report. Its nine bits");
 const USES: Place = (FIELDS, "use rules::Board;");
 const COUNTERS: Place = (RULES, "    pub counters: [u32; 9],");
-const BUFFERS: Place = ("crates/buffers/src/lib.rt", "//");
+const BUFFERS: Place = ("crates/buffers/src/lib.rt", "// What is written into lent buffers");
 
 /// Two functions whose contracts have brackets that are none: in comments, in quotes, in names, and in a clause that has a name.
 const COMMENTS: &str = "fn low(n: u32) -> u8\n    ensures { ⌜ n ⌝ -- {\n    }\n{ [n as u8][0] }\nfn beside()\n    ensures { ⌜ n ⌝ -- }\n    }\n{ }";
@@ -114,7 +114,7 @@ pub const WRONG: &[Copy] = &[
         "calls::save_number",
         &[Put(("crates/calls/src/lib.rt", "image::save(b, out)"), "image::save(b, &mut [0; 49])")],
     ),
-    wrong("in a refusal's number", Array, "rules::refusal_number", &[Put((RULES, "match cause {"), "let numbers = [1, 2]; match cause {")]),
+    wrong("in a refusal's number", Array, "rules::refusal_number", &[Put((RULES, "cause as u8"), "let numbers = [1, 2]; cause as u8")]),
     wrong("a local with a type's name", Array, "image::put_image", &[Put(STATUS, "0;\n    let u8 = b.status;\n    put_field(&mut [u8], 0, 1, 0)")]),
     wrong("a local with an alias's name", Array, "image::put_image", &[Add(ABOVE, "type low = u8;"), Put(STATUS, "put_field(&mut [low], 0, 1, 0)")]),
     wrong("behind quotes", Array, "imagefields::put_field", &[Put(BYTE, "b'\\\\' + b'\"' + b'\\'' + [0u8][0] + b'\"';")]),
@@ -144,7 +144,7 @@ pub const WRONG: &[Copy] = &[
         "rules::Bytes",
         &[
             Add(THERE, "pub struct Bytes { all: [u8; 2] }"),
-            Put((RULES, "Refused(Refusal),\n}\n\n// A step's"), "Refused(Refusal), Partly(u32, Bytes), }\n// A step's"),
+            Put((RULES, "    Buffer = 9,"), "    Buffer = 9, Partly(u32, Bytes),"),
         ],
     ),
     wrong("behind a `pub` of a crate", Array, "imagefields::Line", &[Add(HERE, "struct Line(pub(crate) [u8; 49]);"), Put(VALUE, "value: Line)")]),

@@ -14,8 +14,8 @@ const COUNTERS_TYPE: &str = "counters : [ u32 ; 9 ]";
 const PRIMITIVES: [&str; 13] = ["u8", "u16", "u32", "u64", "usize", "i8", "i16", "i32", "i64", "isize", "bool", "f32", "f64"];
 /// What of the language makes nothing but a number.
 const METHODS: [&str; 1] = ["len"];
-/// The variants of the language's Result, which hold what they are given.
-const VARIANTS: [&str; 2] = ["Ok", "Err"];
+/// The Result of the language and its variants, which hold what they are given.
+const VARIANTS: [&str; 3] = ["Result", "Ok", "Err"];
 const CONSTANTS: [&str; 2] = ["MAX", "MIN"];
 /// Words that stand in no body of a function that can be followed.
 const OUTSIDE: [&str; 7] = ["use", "mod", "ghost", "requires", "ensures", "impl", "trait"];
