@@ -2,6 +2,7 @@
 #![tactic(auto)]
 
 ghost use Rattle.std.specs.Prelude.{◌≡◌, true, []};
+ghost use Rattle.rules.specs.Settings.{settings_accepted};
 ghost use Rattle.rules.specs.Counters.{counted, full};
 ghost use Rattle.rules.specs.Records.{each};
 ghost use Rattle.rules.specs.Reports.{packed_after};
@@ -52,13 +53,13 @@ fn count_each(old: [u32; 9], r: Reading, s: Settings) -> Counters
 }
 
 // All nine counters after the sample, and their bits. The loop is for readings outside the enter-service range.
-pub fn count_all(inside: bool, old: [u32; 9], r: Reading, s: Accepted) -> Counters
-    requires { inside ≡ enters r s.settings }
-    ensures n_value { result.n ≡ each (counted []) (rules_at r s.settings) old }
-    ensures bits_value { result.bits ≡ packed_after 0 (each full (rules_at r s.settings) result.n) }
+pub fn count_all(inside: bool, old: [u32; 9], r: Reading, s: Settings) -> Counters
+    requires { (settings_accepted s ≡ true) × (inside ≡ enters r s) }
+    ensures n_value { result.n ≡ each (counted []) (rules_at r s) old }
+    ensures bits_value { result.bits ≡ packed_after 0 (each full (rules_at r s) result.n) }
 {
     if inside {
-        return count_ninth(old, s);
+        return count_ninth(old, Accepted { settings: s });
     }
-    count_each(old, r, s.settings)
+    count_each(old, r, s)
 }

@@ -8,7 +8,7 @@ ghost use Rattle.explain.specs.Numbers.{explained_number};
 use crate::{ExplainedReport, ExplainedStep};
 use readings::reading::read;
 use rules::{Board, Settings};
-use sensing::{SensingTable, table};
+use sensing::table;
 use service::step_accepted;
 use serving::in_service;
 use settings::Accepted;
@@ -16,10 +16,11 @@ use statusrules::status_rule;
 use wattsrules::watts_rule;
 
 // The step under settings that are accepted and with a sensing table lent.
-fn explained(table: &SensingTable, b: Board, s: Accepted, x: &[u32]) -> ExplainedStep
+fn explained(table: &[u16], b: Board, s: Accepted, x: &[u32]) -> ExplainedStep
+    requires { length table.now ≡ 4096 }
     ensures { result ≡ explained_step (equipped_with table.now) b s.settings x.now }
 {
-    let next = step_accepted(table, b, s, x);
+    let next = step_accepted(table, b, s.settings, x);
     let board = next.board;
     let answer = next.answer;
     match answer {
@@ -32,7 +33,7 @@ fn explained(table: &SensingTable, b: Board, s: Accepted, x: &[u32]) -> Explaine
             let was = in_service(b.status);
             let on = in_service(report.status);
             let status = status_rule(was, on, report.bits, r);
-            let watts = watts_rule(r, s, report);
+            let watts = watts_rule(r, s.settings, report);
             ExplainedStep {
                 board,
                 answer: Ok(ExplainedReport {
@@ -46,7 +47,8 @@ fn explained(table: &SensingTable, b: Board, s: Accepted, x: &[u32]) -> Explaine
 }
 
 // The step with a sensing table lent, and the rules that held beside its report; a refused call has none, and changes nothing.
-pub fn step_by(table: &SensingTable, b: Board, s: Settings, x: &[u32]) -> ExplainedStep
+pub fn step_by(table: &[u16], b: Board, s: Settings, x: &[u32]) -> ExplainedStep
+    requires { length table.now ≡ 4096 }
     ensures value { result ≡ explained_step (equipped_with table.now) b s x.now }
     ensures answer_value { explained_number result.answer ≡ first (settings_causes s ++ sample_causes x.now) }
 {

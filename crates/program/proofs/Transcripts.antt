@@ -22,7 +22,7 @@ use Rattle.rules.specs.declared.Settings.{Settings}
 use Rattle.rules.specs.declared.Board.{Board}
 use Rattle.rules.specs.declared.Refusal.{Refusal}
 use Rattle.rules.specs.declared.Refusal.TheVariants.{Form}
-use Rattle.rules.specs.declared.SheetRefusal.{SheetRefusal}
+use Rattle.sheet.specs.declared.LineRefusal.{LineRefusal}
 use Rattle.rules.specs.Answers.{settings_refused}
 use Rattle.rules.specs.declared.Stepped.{Stepped}
 use Rattle.text.proofs.Lines.{line_after}
@@ -129,11 +129,11 @@ module _ (e : Equipment) (s : List ℕ) (i at : ℕ) (lines : List (List Pair)) 
         → resume e (reading (settings_of lines) i at) (drop at s) ≡ r.text ++ resume e r.state (drop past s)
     then r p = resume-fed e (reading (settings_of lines) i at) (drop at s) f ∙ rw (said_read, p, after_is)
 
-    refused-text : (away : SheetRefusal) → read ≡ Err away
+    refused-text : (away : LineRefusal) → read ≡ Err away
         → resume e (reading (settings_of lines) i at) (drop at s) ≡ to_the_end e s (from s i at lines)
     refused-text away c =
-        let cause = away.cause in
-        let n = away.line in
+        let cause = away.why.cause in
+        let n = away.why.line in
         let r = on-refused s i at lines h f long away c in
         let q = reading (settings_of lines) i at in
         let closes : refused_line (refusal_number cause) n ++ resume e (stopped q (length line + 1)) (drop past s) ≡ refused_line (refusal_number cause) (i + 1)

@@ -33,7 +33,7 @@ stage_after line = cond (eqb line sheet_lines) 1 0
 
 -- spec 10.6: a refused sheet ends all; n is how many bytes the line took
 abbrev pub on_read : State → ℕ → LineRead → Said
-on_read q n (Err away) = record { state = stopped q n; text = refused_line (refusal_number away.cause) away.line }
+on_read q n (Err away) = record { state = stopped q n; text = refused_line (refusal_number away.why.cause) away.why.line }
 on_read q n (Ok st) =
     record {
       state = record { stage = stage_after q.line; line = q.line + 1; overlong = false; taken = q.taken + n; settings = st; board = q.board };

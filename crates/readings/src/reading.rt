@@ -7,7 +7,7 @@ ghost use Rattle.rules.specs.Regions.{equipped_with};
 ghost use Rattle.readings.specs.Readings.{reading_of};
 
 use rules::{Refusal, SampleCheck};
-use sensing::{SensingTable, volts};
+use sensing::volts;
 
 // What the rules read: lowest, highest and sum of the three voltages, frequency, permit service, available power and operator's limit.
 #[derive(Clone, Copy)]
@@ -59,8 +59,8 @@ pub fn check(x: &[u32]) -> SampleCheck
 }
 
 // The reading of an accepted slice, by a lent sensing table.
-pub fn read(table: &SensingTable, x: &[u32]) -> Reading
-    requires { sample_accepted x.now ≡ true }
+pub fn read(table: &[u16], x: &[u32]) -> Reading
+    requires { (length table.now ≡ 4096) × (sample_accepted x.now ≡ true) }
     ensures { result ≡ reading_of (equipped_with table.now) x.now }
 {
     let a = u32::from(volts(table, x[0]));

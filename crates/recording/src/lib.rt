@@ -7,7 +7,6 @@ ghost use Rattle.recording.specs.Recordings.{group_length, ran_by};
 
 use freshboard::{fresh, fresh_report};
 use rules::{Board, Report};
-use sensing::SensingTable;
 use service::step_accepted;
 use settings::Accepted;
 
@@ -23,7 +22,8 @@ pub struct Ran {
 }
 
 // The samples one after another, from a fresh record, under settings that are accepted and with one sensing table lent for all of them.
-pub fn step_all(table: &SensingTable, settings: Accepted, samples: &[u32]) -> Ran
+pub fn step_all(table: &[u16], settings: Accepted, samples: &[u32]) -> Ran
+    requires { length table.now ≡ 4096 }
     ensures { result ≡ ran_by (equipped_with table.now) settings.settings samples.now }
 {
     let mut ran = Ran {
@@ -32,7 +32,7 @@ pub fn step_all(table: &SensingTable, settings: Accepted, samples: &[u32]) -> Ra
         accepted: 0,
     };
     for sample in samples.chunks(GROUP_LENGTH) {
-        let next = step_accepted(table, ran.board, settings, sample);
+        let next = step_accepted(table, ran.board, settings.settings, sample);
         ran.board = next.board;
         if let Ok(report) = next.answer {
             ran.report = report;

@@ -11,7 +11,7 @@ use freshboard::fresh_report;
 use image::save;
 use recording::step_all;
 use rules::{IMAGE_LENGTH, Refusal, Report, Settings};
-use sensing::{SensingTable, table};
+use sensing::table;
 
 // What a replay answers: 0 or the refusal's number, how many samples were accepted, and the last report.
 // No Result: by value a refused replay answers a report too (spec 5.6), and `ReplaysRightly` of specs/ is claimed of it and of the exported call alike.
@@ -35,12 +35,8 @@ fn refused(cause: Refusal) -> Replayed
 
 // Replays lent samples with a sensing table lent, and saves the image. Settings are checked for 2 and 3 in sheet order, then the buffer for 9;
 // a refused replay leaves the buffer as it was. A refused sample is no step and does not refuse the replay.
-pub fn replay_by(
-    table: &SensingTable,
-    settings: Settings,
-    samples: &[u32],
-    buffer: &mut [u8],
-) -> Replayed
+pub fn replay_by(table: &[u16], settings: Settings, samples: &[u32], buffer: &mut [u8]) -> Replayed
+    requires { length table.now ≡ 4096 }
     ensures value { (result ≡ replayed_by (equipped_with table.now) settings samples.now buffer.old)
         × (buffer.new ≡ replayed_into_by (equipped_with table.now) settings samples.now buffer.old) }
     ensures number_value { result.number ≡ first (settings_causes settings ++ (cause 9 (ltb (length buffer.old) image_length) ∷ [])) }

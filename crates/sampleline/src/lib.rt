@@ -72,7 +72,7 @@ pub fn answer_to(
         };
     };
     match accepted {
-        Ok(settings) => step_accepted(table, b, settings, &slice),
+        Ok(accepted) => step_accepted(table, b, accepted.settings, &slice),
         Err(away) => Stepped {
             board: b,
             answer: Err(away.cause),

@@ -24,15 +24,16 @@ pub fn table() -> SensingTable
 }
 
 // The voltage of a code, by a lent table.
-pub fn volts(table: &SensingTable, code: u32) -> u16
-    requires { code < 4096 }
+pub fn volts(table: &[u16], code: u32) -> u16
+    requires { (length table.now ≡ 4096) × (code < 4096) }
     ensures { result ≡ get_or table.now code 0 }
 {
     table[code as usize]
 }
 
 // The voltage of any code, by a lent table: one above the table is refused, and never given the last entry.
-pub fn sense_by(table: &SensingTable, code: u32) -> Sensed
+pub fn sense_by(table: &[u16], code: u32) -> Sensed
+    requires { length table.now ≡ 4096 }
     ensures value { result ≡ sensed_by (equipped_with table.now).sensing code }
     ensures result_value { sensed_number result ≡ first (cause 4 (ltb last_code code) ∷ []) }
 {

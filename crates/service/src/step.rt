@@ -1,5 +1,6 @@
 // Spec 4.3, 6 to 8: the step, by value.
 ghost use Rattle.std.specs.Prelude.{◌≡◌, true, ◌++◌, ◌/◌, ◌≤◌, length};
+ghost use Rattle.rules.specs.Settings.{settings_accepted};
 ghost use Rattle.rules.specs.Samples.{Slice, Equipment};
 ghost use Rattle.rules.specs.Regions.{voltage_region, region_of, our_equipment, equipped_with};
 ghost use Rattle.rules.specs.Droop.{side_after};
@@ -17,7 +18,7 @@ use readings::reading::{Reading, check, read};
 use recovery::{ceases, recovery_after};
 use ridethrough::regions::region;
 use rules::{Board, Region, Report, Settings, Stepped};
-use sensing::{SensingTable, table};
+use sensing::table;
 use serving::{in_service, in_service_after, is_continuous, ramp_after, share, status_of};
 use settings::Accepted;
 
@@ -41,7 +42,7 @@ fn settle(
     let length = s.settings.ramp;
     let status = status_of(on, area, ramp == length);
     let part = share(ramp, length);
-    let p = powers_in(r, s, status, part, recovery, held);
+    let p = powers_in(r, s.settings, status, part, recovery, held);
     let n = c.n;
     let watts = p.watts as u16;
     let vars = p.vars as i16;
@@ -77,7 +78,7 @@ fn advance(b: Board, s: Accepted, r: Reading) -> Stepped
 {
     let old = b.counters;
     let inside = in_range(r, s.settings);
-    let c = count_all(inside, old, r, s);
+    let c = count_all(inside, old, r, s.settings);
     let was = in_service(b.status);
     let on = in_service_after(was, r.permit, c.bits);
     let area = region(inside, r);
@@ -89,21 +90,23 @@ fn advance(b: Board, s: Accepted, r: Reading) -> Stepped
 }
 
 // The step under settings that are accepted and with a sensing table lent: only the sample is checked.
-pub fn step_accepted(table: &SensingTable, b: Board, s: Accepted, x: &[u32]) -> Stepped
-    ensures { result ≡ step_of (equipped_with table.now) b s.settings x.now }
+pub fn step_accepted(table: &[u16], b: Board, s: Settings, x: &[u32]) -> Stepped
+    requires { (length table.now ≡ 4096) × (settings_accepted s ≡ true) }
+    ensures { result ≡ step_of (equipped_with table.now) b s x.now }
 {
     match check(x) {
         Err(cause) => Stepped {
             board: b,
             answer: Err(cause),
         },
-        Ok(()) => advance(b, s, read(table, x)),
+        Ok(()) => advance(b, Accepted { settings: s }, read(table, x)),
     }
 }
 
 // The step with a sensing table lent: settings are checked for 2 and 3 in sheet order, then the slice for 8, 4, 5, 6, 7; a refused call changes
 // nothing.
-pub fn step_by(table: &SensingTable, b: Board, s: Settings, x: &[u32]) -> Stepped
+pub fn step_by(table: &[u16], b: Board, s: Settings, x: &[u32]) -> Stepped
+    requires { length table.now ≡ 4096 }
     ensures value { result ≡ step_of (equipped_with table.now) b s x.now }
     ensures answer_value { answer_number result.answer ≡ first (settings_causes s ++ sample_causes x.now) }
 {
@@ -112,7 +115,7 @@ pub fn step_by(table: &SensingTable, b: Board, s: Settings, x: &[u32]) -> Steppe
             board: b,
             answer: Err(refused.cause),
         },
-        Ok(accepted) => step_accepted(table, b, accepted, x),
+        Ok(accepted) => step_accepted(table, b, accepted.settings, x),
     }
 }
 

@@ -16,13 +16,13 @@ use Rattle.pairs.specs.Pairs.{settings_line}
 use Rattle.settings.specs.Lines.{line_found}
 use Rattle.text.specs.Lines.{numbers_read}
 use Rattle.storing.specs.Stores.{with_numbers}
-use Rattle.sheet.specs.LineReads.{LineRead, accepted_as, on_line}
+use Rattle.sheet.specs.LineReads.{refused_as, accepted_as, on_line}
 
 module _ (i : ℕ) (st : Settings) where
   -- a line without its form
   pub line-none : (o : Option (List ℤ)) → numbers_read o ≡ None → (away : SheetRefusal) → away ≡ record { cause = Form; line = i + 1 }
-      → ◌≡◌ {A = LineRead} (Err away) (on_line i st o)
-  line-none none e away p = ap Err p
+      → refused_as st away ≡ on_line i st o
+  line-none none e away p = ap (refused_as st) p
   line-none (some ns) e away p = let z : ◌≡◌ {A = ℕ} 0 1 = cc in absurd (omega arith)
 
   -- a line with it

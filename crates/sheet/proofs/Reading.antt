@@ -31,16 +31,17 @@ use Rattle.matching.specs.Places.{padded}
 use borrow.Author.Tests.{lt-ltb, le-ltb}
 use Rattle.text.proofs.Lines.{line_after, line-take}
 use Rattle.storing.specs.Stores.{with_numbers}
-use Rattle.sheet.specs.LineReads.{accepted_as, on_line, line_read}
+use Rattle.sheet.specs.declared.LineRefusal.{LineRefusal}
+use Rattle.sheet.specs.LineReads.{LineRead, refused_as, accepted_as, on_line, line_read}
 use Rattle.sheet.specs.Outcomes.{Gives}
 use Rattle.sheet.proofs.Stored.{in-line, one_more, eight-limits}
 
-same-err : {T : Type 0} (a b : SheetRefusal) → ◌≡◌ {A = Result T SheetRefusal} (Err a) (Err b) → a ≡ b
-same-err {T} a b e = ap why e
+same-err : (st : Settings) (a : SheetRefusal) (b : LineRefusal) → refused_as st a ≡ Err b → a ≡ b.why
+same-err st a b e = ap why e
   where
-    why : Result T SheetRefusal → SheetRefusal
+    why : LineRead → SheetRefusal
     why (Ok ok) = a
-    why (Err away) = away
+    why (Err away) = away.why
 
 rows_long : length rows ≡ sheet_lines
 unfolding rows
@@ -150,25 +151,25 @@ module _ (s : List ℕ) (i at : ℕ) (lines : List (List Pair)) (h : i < sheet_l
             by_found (Ok ok) e = (refl, cc)
             by_found (Err away) e = let z : ◌≡◌ {A = ℕ} 0 1 = cc in absurd (omega arith)
 
-    pub on-refused : (away : SheetRefusal) → line_read i line (settings_of lines) ≡ Err away
-        → (from s i at lines ≡ refused_at away.cause (i + 1) at) × (away.line ≡ i + 1)
+    pub on-refused : (away : LineRefusal) → line_read i line (settings_of lines) ≡ Err away
+        → (from s i at lines ≡ refused_at away.why.cause (i + 1) at) × (away.why.line ≡ i + 1)
     unfolding line_read
     on-refused away c = by (numbers_of (form_at i) line) refl
       where
-        by : (o : Option (List ℤ)) → numbers_of (form_at i) line ≡ o → (from s i at lines ≡ refused_at away.cause (i + 1) at) × (away.line ≡ i + 1)
+        by : (o : Option (List ℤ)) → numbers_of (form_at i) line ≡ o → (from s i at lines ≡ refused_at away.why.cause (i + 1) at) × (away.why.line ≡ i + 1)
         by none p =
-            let same = same-err (record { cause = Form; line = i + 1 }) away (sym (ap (on_line i (settings_of lines)) p) ∙ c) in (
+            let same = same-err (settings_of lines) (record { cause = Form; line = i + 1 }) away (sym (ap (on_line i (settings_of lines)) p) ∙ c) in (
               from-ended ∙ ap (λ (o : Option (List ℤ)). on_numbers (i + 1) at (row_at i) o (λ ps. from s (i + 1) past (lines ++ (ps ∷ [])))) p
                   ∙ ap (λ (k : SheetRefusal). refused_at k.cause (i + 1) at) same,
               sym (ap (λ (k : SheetRefusal). k.line) same),
             )
         by (some ns) p =
             let found = line_found (row_at i) (settings_line (with_numbers (settings_of lines) i (padded ns)) i) i in
-            refused-numbers ns p away.cause away.line (by_found found (sym (ap (on_line i (settings_of lines)) p) ∙ c))
+            refused-numbers ns p away.why.cause away.why.line (by_found found (sym (ap (on_line i (settings_of lines)) p) ∙ c))
           where
-            by_found : (k : SettingsCheck) → accepted_as (with_numbers (settings_of lines) i (padded ns)) k ≡ Err away → k ≡ Err away
+            by_found : (k : SettingsCheck) → accepted_as (with_numbers (settings_of lines) i (padded ns)) k ≡ Err away → k ≡ Err away.why
             by_found (Ok ok) e = let z : ◌≡◌ {A = ℕ} 0 1 = cc in absurd (omega arith)
-            by_found (Err k) e = ap Err (same-err k away e)
+            by_found (Err k) e = ap Err (same-err (with_numbers (settings_of lines) i (padded ns)) k away e)
 
 -- past the last line
 pub from_end : (s : List ℕ) (i at : ℕ) (lines : List (List Pair)) → sheet_lines ≤ i
@@ -222,11 +223,11 @@ module _ (s : List ℕ) (settings : Settings) (at i end : ℕ) (going : Going s 
           reading = going.reading ∙ g.reading ∙ ap (λ (n : ℕ). from s (i + 1) n (going.lines ++ (g.read ∷ []))) p;
         }
 
-    pub stops : (away : SheetRefusal) → line_read i (take (end - at) (drop at s)) settings ≡ Err away
-        → Gives (record { check = Err away; settings = settings_of []; start = at }) (read_sheet s)
+    pub stops : (away : LineRefusal) → line_read i (take (end - at) (drop at s)) settings ≡ Err away
+        → Gives (record { check = Err away.why; settings = settings_of []; start = at }) (read_sheet s)
     stops away c =
         let k = on-refused s i at going.lines h feed-there going.long away (sym (read_is s i at end settings going.lines place going.held) ∙ c) in
-        rw (going.reading ∙ k.0) (record { check = ap (settings_refused away.cause) k.1; settings = refl; start = refl })
+        rw (going.reading ∙ k.0) (record { check = ap (settings_refused away.why.cause) k.1; settings = refl; start = refl })
 
 pub finished : (s : List ℕ) (settings : Settings) (at i : ℕ) → Going s settings at i → sheet_lines ≤ i
     → Gives (record { check = Ok tt; settings = settings; start = at }) (read_sheet s)

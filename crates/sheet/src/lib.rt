@@ -14,8 +14,15 @@ use settings::check_line;
 use storing::{no_settings, with_numbers};
 use text::{form_numbers, line_end};
 
-// What reading a line gives: the settings with its numbers, or why it is refused.
-pub type LineRead = Result<Settings, SheetRefusal>;
+// A line that is refused: why, and the settings then, with its numbers where it has its form.
+#[derive(Clone, Copy)]
+pub struct LineRefusal {
+    pub why: SheetRefusal,
+    pub settings: Settings,
+}
+
+// What reading a line gives: the settings with its numbers, or its refusal.
+pub type LineRead = Result<Settings, LineRefusal>;
 
 // Line i, counted from 0, that has not its form or is not there.
 pub fn formless(line: usize) -> SheetRefusal
@@ -34,11 +41,19 @@ pub fn read_line(i: usize, line: &[u8], before: Settings) -> LineRead
     ensures { result ≡ line_read i line.now before }
 {
     let Some(n) = form_numbers(i, line) else {
-        return Err(formless(i));
+        return Err(LineRefusal {
+            why: formless(i),
+            settings: before,
+        });
     };
     let next = with_numbers(before, i, n);
-    check_line(next, i)?;
-    Ok(next)
+    match check_line(next, i) {
+        Ok(()) => Ok(next),
+        Err(why) => Err(LineRefusal {
+            why,
+            settings: next,
+        }),
+    }
 }
 
 // What reading a sheet gives: the check; the settings, all 0 where it is refused; and where the part handed back begins.
@@ -77,7 +92,7 @@ pub fn read(s: &[u8]) -> SheetOutcome
                 settings = next;
                 at = end + 1;
             }
-            Err(why) => return refused_at(why, at),
+            Err(away) => return refused_at(away.why, at),
         }
     }
     SheetOutcome {

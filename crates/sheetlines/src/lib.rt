@@ -12,7 +12,7 @@ ghost use Rattle.rules.specs.Settings.{sheet_lines};
 
 use program::State;
 use rules::{SHEET_LINES, Settings, SettingsCheck};
-use sheet::{LineRead, formless, read_line};
+use sheet::{LineRead, LineRefusal, formless, read_line};
 use states::stop;
 use text::line_end;
 
@@ -22,7 +22,10 @@ fn read_whole(overlong: bool, i: usize, line: &[u8], before: Settings) -> LineRe
     ensures { result ≡ on_line i before (line_numbers overlong (form_at i) line.now) }
 {
     if overlong {
-        return Err(formless(i));
+        return Err(LineRefusal {
+            why: formless(i),
+            settings: before,
+        });
     }
     read_line(i, line, before)
 }
@@ -47,9 +50,9 @@ fn sheet_line(q: State, line: &[u8]) -> SheetLine
 {
     let n = line.len() as u64 + 1;
     match read_whole(q.overlong, (q.line - 1) as usize, line, q.settings) {
-        Err(why) => SheetLine {
+        Err(away) => SheetLine {
             state: stop(q, n),
-            check: Err(why),
+            check: Err(away.why),
         },
         Ok(settings) => SheetLine {
             state: State {

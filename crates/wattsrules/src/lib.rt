@@ -2,6 +2,7 @@
 #![tactic(auto)]
 
 ghost use Rattle.std.specs.Prelude.{◌≡◌, true, ◌++◌, ℕ, ◌≤◌, ◌<◌, nat_abs};
+ghost use Rattle.rules.specs.Settings.{settings_accepted};
 ghost use Rattle.rules.specs.Samples.{Slice, Equipment, frequency};
 ghost use Rattle.rules.specs.Droop.{side_of};
 ghost use Rattle.rules.specs.Service.{vars_of, calm_limits, event_limits, watts_of, power_limits, left_by};
@@ -12,7 +13,7 @@ use droop::{side_of, within_droop};
 use power::{volt_watt, within_nameplate};
 use readings::reading::Reading;
 use reasons::WattsRule;
-use rules::Report;
+use rules::{Report, Settings};
 use serving::gives_power;
 use settings::Accepted;
 
@@ -67,18 +68,19 @@ fn event_rule(r: Reading, s: Accepted, report: Report) -> WattsRule
 }
 
 // The first limit, in the order of spec 7.5 or in an event of spec 7.8, that leaves what the report's watts are.
-pub fn watts_rule(r: Reading, s: Accepted, report: Report) -> WattsRule
-    requires { (Exportable r) × (report.watts ≤ r.available) × (nat_abs report.vars ≤ 10000) }
+pub fn watts_rule(r: Reading, s: Settings, report: Report) -> WattsRule
+    requires { (Exportable r) × (settings_accepted s ≡ true) × (report.watts ≤ r.available) × (nat_abs report.vars ≤ 10000) }
     ensures { (e : Equipment) (x : Slice) → reading_of e x ≡ r
-        → report.watts ≡ watts_of e s.settings x report.status report.share report.recovery report.held
-        → report.vars ≡ vars_of e s.settings x report.status
-        → result ≡ watts_rule report.status (power_limits e s.settings x report.share report.recovery report.held report.vars) }
+        → report.watts ≡ watts_of e s x report.status report.share report.recovery report.held
+        → report.vars ≡ vars_of e s x report.status
+        → result ≡ watts_rule report.status (power_limits e s x report.share report.recovery report.held report.vars) }
 {
     if !gives_power(report.status) {
         return WattsRule::Status;
     }
+    let accepted = Accepted { settings: s };
     if side_of(r.frequency) == 0 {
-        return calm_rule(r, s, report);
+        return calm_rule(r, accepted, report);
     }
-    event_rule(r, s, report)
+    event_rule(r, accepted, report)
 }

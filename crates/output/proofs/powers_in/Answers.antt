@@ -19,12 +19,12 @@ use Rattle.output.proofs.powers_in.Goals as goal
 
 pub volt_var-vars-requires : goal.volt_var-vars-requires
 volt_var-vars-requires c =
-    var-rises c.args.s.settings c.args.s.sheet
+    var-rises c.args.s c.requires.1
 
 pub volt_watt-curve-requires : goal.volt_watt-curve-requires
 volt_watt-curve-requires c = (
-  watt-rises c.args.s.settings c.args.s.sheet,
-  watt-not-negatives c.args.s.settings c.args.s.sheet,
+  watt-rises c.args.s c.requires.1,
+  watt-not-negatives c.args.s c.requires.1,
 )
 
 pub returns : goal.returns
@@ -40,10 +40,10 @@ returns c =
     let begin = c.first_limits-p in
     let turns : c.within_recovery-watts.result ≡ in_turn begin.result others
     = rw (c.within_recovery-watts.ensures, c.within_nameplate-p.ensures, c.min-p.ensures, same) in
-    let low : c.within_recovery-watts.result ≤ 10000 = rw turns (omega (arith, in-turn-low begin.result others, begin.ensures.upper_bound, pre.available-top)) in (record {
-      vars_value = (λ e x q. same ∙ vars-on e a.s.settings x a.r q a.status on vars.result vars.ensures.value);
+    let low : c.within_recovery-watts.result ≤ 10000 = rw turns (omega (arith, in-turn-low begin.result others, begin.ensures.upper_bound, pre.0.available-top)) in (record {
+      vars_value = (λ e x q. same ∙ vars-on e a.s x a.r q a.status on vars.result vars.ensures.value);
       watts_value = (λ e x q.
-          watts-on e a.s.settings x a.r q a.status on a.share a.recovery a.held begin.result vars.result curve.result _ (begin.ensures.value e x q)
+          watts-on e a.s x a.r q a.status on a.share a.recovery a.held begin.result vars.result curve.result _ (begin.ensures.value e x q)
           vars.ensures.value curve.ensures.value turns);
       watts_bound = (low, rw same vars.ensures.result_bound);
     })

@@ -67,8 +67,8 @@ returns-in-Err c =
     let s = c.args.s.now in
     let end = c.line_end-end in
     let g = stops s w.settings w.at w.i end.result w.invariant (omega arith) end.ensures.value end.ensures.s_value (omega arith)
-    c.in-Err.why (sym c.read_line.ensures ∙ c.in-Err.is) in
-    let t = turned s w.at c.in-Err.why c.refused_at-in-Err.result c.refused_at-in-Err.ensures w.invariant.inside g in
+    c.in-Err.away (sym c.read_line.ensures ∙ c.in-Err.is) in
+    let t = turned s w.at c.in-Err.away.why c.refused_at-in-Err.result c.refused_at-in-Err.ensures w.invariant.inside g in
     record { sheet_given = t.sheet_given; start_in_bounds = t.start_in_bounds }
 
 pub returns : goal.returns

@@ -1,12 +1,11 @@
 -- `sheet::read_line` meets its contract: with its form a line is stored and checked, without it refused.
 -- Assumes nothing.
 use Rattle.std.specs.Prelude.{Ok, Err}
-use mathlib.Core.Path.{sym, ap, ◌∙◌}
+use mathlib.Core.Path.{sym, ◌∙◌}
 use Rattle.rules.specs.Forms.{numbers_of}
 use Rattle.formats.specs.Marks.{form_at}
-use Rattle.sheet.specs.LineReads.{accepted_as, line_read}
+use Rattle.sheet.specs.LineReads.{line_read}
 use Rattle.sheet.proofs.Lines.{line-none, line-some}
-use Rattle.std.proofs.lemmas.Result.{err_from_is_err_and}
 use borrow.Author.Rules.{rules}
 use Rattle.sheet.proofs.read_line.Goals as goal
 
@@ -16,21 +15,16 @@ returns-in_default c =
     let a = c.args in
     line-none a.i a.before (numbers_of (form_at a.i) a.line.now) (sym c.form_numbers.ensures ∙ c.in_default.is) c.formless.result c.formless.ensures
 
-pub returns-in_err-check_line : goal.returns-in_err-check_line
+pub returns-in-Err : goal.returns-in-Err
 unfolding line_read
-returns-in_err-check_line c =
+returns-in-Err c =
     let a = c.args in
-    let given = err_from_is_err_and c.from_residual.result c.from_residual.ensures.1 in
-    let next = c.with_numbers-next.result in
-    let is = line-some a.i a.before (numbers_of (form_at a.i) a.line.now) c.in-Some.n (sym c.form_numbers.ensures ∙ c.in-Some.is) next
-    c.with_numbers-next.ensures c.check_line.result c.check_line.ensures in
-    given.1 ∙ ap Err given.2 ∙ sym (ap (accepted_as next) c.in_err-check_line.was) ∙ is
+    line-some a.i a.before (numbers_of (form_at a.i) a.line.now) c.in-Some.n (sym c.form_numbers.ensures ∙ c.in-Some.is) c.with_numbers-next.result
+    c.with_numbers-next.ensures (Err c.in-Err.why) c.in-Err.ensures
 
-pub returns : goal.returns
+pub returns-in-Ok : goal.returns-in-Ok
 unfolding line_read
-returns c =
+returns-in-Ok c =
     let a = c.args in
-    let next = c.with_numbers-next.result in
-    let is = line-some a.i a.before (numbers_of (form_at a.i) a.line.now) c.in-Some.n (sym c.form_numbers.ensures ∙ c.in-Some.is) next
-    c.with_numbers-next.ensures c.check_line.result c.check_line.ensures in
-    sym (ap (accepted_as next) c.in_ok-check_line.was) ∙ is
+    line-some a.i a.before (numbers_of (form_at a.i) a.line.now) c.in-Some.n (sym c.form_numbers.ensures ∙ c.in-Some.is) c.with_numbers-next.result
+    c.with_numbers-next.ensures (Ok tt) c.in-Ok.ensures

@@ -18,7 +18,7 @@ returns-then-side_of-eq0 c =
     λ e x q watts vars.
     let on : exports a.report.status ≡ true = sym given.ensures ∙ c.if-not-gives_power.false in
     let none = side-on e x a.r q ∙ sym c.side_of.ensures ∙ c.if-side_of-eq0.true in
-    calm-rule-is e a.s.settings x a.report on watts vars none c.calm_rule.result (c.calm_rule.ensures e x q)
+    calm-rule-is e a.s x a.report on watts vars none c.calm_rule.result (c.calm_rule.ensures e x q)
 
 pub returns : goal.returns
 returns c =
@@ -27,4 +27,4 @@ returns c =
     λ e x q watts vars.
     let on : exports a.report.status ≡ true = sym given.ensures ∙ c.if-not-gives_power.false in
     let some : ¬ (side_of (frequency x) ≡ no_side) = λ none. c.if-side_of-eq0.false (c.side_of.ensures ∙ sym (side-on e x a.r q) ∙ none) in
-    event-rule-is e a.s.settings x a.report on watts vars some c.event_rule.result (c.event_rule.ensures e x q)
+    event-rule-is e a.s x a.report on watts vars some c.event_rule.result (c.event_rule.ensures e x q)

@@ -13,7 +13,7 @@ pub read-r-requires : goal.read-r-requires
 read-r-requires c =
     let a = c.args in
     let e = equipped_with a.table.now in
-    of.accepted e a.s.settings a.x.now a.b c.step_accepted-next.result c.step_accepted-next.ensures _ c.in-Ok.is
+    (c.requires, of.accepted e a.s.settings a.x.now a.b c.step_accepted-next.result c.step_accepted-next.ensures _ c.in-Ok.is)
 
 pub watts_rule-watts-requires : goal.watts_rule-watts-requires
 watts_rule-watts-requires c =
@@ -26,6 +26,7 @@ watts_rule-watts-requires c =
     let vars = of.vars-are e a.s.settings a.x.now a.b c.step_accepted-next.result c.step_accepted-next.ensures _ told a.s.sheet in
     rw read (
       record { frequency-top = right.frequency-high; available-top = right.available-top; limit-top = right.limit-top },
+      a.s.sheet,
       rw watts (watts-available e a.s.settings a.x.now _ _ _ _),
       rw vars (of.vars-small e a.s.settings a.x.now _ a.s.sheet),
     )

@@ -20,7 +20,7 @@ pub returns-in-Err : goal.returns-in-Err
 returns-in-Err c =
     let e = equipped_with c.args.table.now in
     let refused = sym c.in-Err.ensures in
-    sym (sample-refused e c.args.s.settings c.args.x.now c.args.b _ c.args.s.sheet refused)
+    sym (sample-refused e c.args.s c.args.x.now c.args.b _ c.requires.1 refused)
 
 pub returns-in-Ok : goal.returns-in-Ok
 returns-in-Ok c =
@@ -28,4 +28,4 @@ returns-in-Ok c =
     = ap sample_passed (sym c.in-Ok.ensures) in
     let e = equipped_with c.args.table.now in
     c.advance.ensures e c.args.x.now refl (sym c.read.ensures)
-    ∙ sym (accepted-step e c.args.b c.args.s.settings c.args.x.now c.args.s.sheet ok)
+    ∙ sym (accepted-step e c.args.b c.args.s c.args.x.now c.requires.1 ok)
