@@ -1,10 +1,10 @@
 // Spec 3.5: the table of allowed values, and the one range check that reads it.
 #![tactic(auto)]
 
-ghost use Rattle.std.specs.Prelude.{◌≡◌, ◌&&◌, map, ◌<◌};
+ghost use Rattle.std.specs.Prelude.{◌≡◌, ◌&&◌, map};
 ghost use Rattle.std.specs.Int.Signed.{le_z};
-ghost use Rattle.rules.specs.Settings.{sheet_lines, rows, in_row};
-ghost use Rattle.ranges.specs.Rows.{row_of, row_at};
+ghost use Rattle.rules.specs.Settings.{rows, in_row};
+ghost use Rattle.ranges.specs.Rows.{row_of};
 ghost use Rattle.ranges.specs.Pairs.{pair_of};
 
 use rules::SHEET_LINES;
@@ -57,13 +57,4 @@ pub fn in_row(row: Row, p: Pair) -> bool
     ensures { result ≡ in_row (row_of row) (pair_of p) }
 {
     within(row.0, row.1, p.first) && within(row.2, row.3, p.second)
-}
-
-// Whether a pair lies in the row of a line, counted from 0.
-#[tactic(auto, unfolding(rules::specs::Settings::rows))]
-pub fn in_line(line: usize, p: Pair) -> bool
-    requires { line < sheet_lines }
-    ensures { result ≡ in_row (row_at line) (pair_of p) }
-{
-    in_row(ROWS[line], p)
 }

@@ -6,21 +6,21 @@ ghost use Rattle.rules.specs.Tests.{all};
 ghost use Rattle.rules.specs.Settings.{sheet_lines, in_row, rising, settings_check, settings_accepted};
 ghost use Rattle.rules.specs.Refusals.{settings_number, line_of};
 ghost use Rattle.causes.specs.FirstCause.{first, settings_causes, cause_line};
-ghost use Rattle.ranges.specs.Rows.{row_at};
+ghost use Rattle.ranges.specs.Rows.{row_of, row_at};
 ghost use Rattle.pairs.specs.Pairs.{settings_line};
 ghost use Rattle.settings.specs.Lines.{line_found, first_lines_check};
 
 use pairs::{pair_at, pairs_in};
-use ranges::in_line;
+use ranges::{Row, in_row, row_table};
 use rules::{Refusal, SHEET_LINES, Settings, SettingsCheck, SheetRefusal};
 
-// Whether every pair of a line lies in its row.
-fn line_in_row(s: Settings, line: usize) -> bool
+// Whether every pair of a line lies in a row.
+fn line_in_row(row: Row, s: Settings, line: usize) -> bool
     requires { line < sheet_lines }
-    ensures { result ≡ all (map (in_row (row_at line)) (settings_line s line)) }
+    ensures { result ≡ all (map (in_row (row_of row)) (settings_line s line)) }
 {
     for k in 0..pairs_in(line) {
-        if !in_line(line, pair_at(s, line, k)) {
+        if !in_row(row, pair_at(s, line, k)) {
             return false;
         }
     }
@@ -40,13 +40,13 @@ fn rises(s: Settings, line: usize) -> bool
     true
 }
 
-// Refusals 2 and 3 of a line of settings, counted from 0; 2 before 3 (spec 4.3).
-pub fn check_line(s: Settings, line: usize) -> SettingsCheck
+// Refusals 2 and 3 of one line, 2 before 3 (spec 4.3). The row is given: whoever names the table copies it whole.
+fn line_check(row: Row, s: Settings, line: usize) -> SettingsCheck
     requires { line < sheet_lines }
-    ensures { result ≡ line_found (row_at line) (settings_line s line) line }
+    ensures { result ≡ line_found (row_of row) (settings_line s line) line }
 {
     let number = (line + 1) as u8;
-    if !line_in_row(s, line) {
+    if !line_in_row(row, s, line) {
         return Err(SheetRefusal {
             cause: Refusal::Range,
             line: number,
@@ -61,13 +61,23 @@ pub fn check_line(s: Settings, line: usize) -> SettingsCheck
     Ok(())
 }
 
+// The same for a line of settings, counted from 0.
+pub fn check_line(s: Settings, line: usize) -> SettingsCheck
+    requires { line < sheet_lines }
+    ensures { result ≡ line_found (row_at line) (settings_line s line) line }
+{
+    let rows = row_table();
+    line_check(rows[line], s, line)
+}
+
 // Refusals 2 and 3 of the first so many lines: the first found in sheet order (spec 4.3).
 pub fn check_first(s: Settings, lines: usize) -> SettingsCheck
     requires { lines ≤ sheet_lines }
     ensures { result ≡ first_lines_check lines s }
 {
+    let rows = row_table();
     for line in 0..lines {
-        check_line(s, line)?;
+        line_check(rows[line], s, line)?;
     }
     Ok(())
 }

@@ -9,7 +9,7 @@ use borrow.Author.Rules.{rules}
 use borrow.Author.Tests.{not-true, not-false}
 use Rattle.rules.specs.Tests.{all}
 use Rattle.rules.specs.Settings.{in_row}
-use Rattle.ranges.specs.Rows.{row_at}
+use Rattle.ranges.specs.Rows.{row_of}
 use Rattle.pairs.specs.Pairs.{settings_line, pairs_in}
 use Rattle.pairs.proofs.Sheet.{pairs-at, unmapped}
 use Rattle.settings.proofs.Steps.{range-more, range-end}
@@ -17,4 +17,4 @@ use Rattle.settings.proofs.line_in_row.Given as goal
 
 abbrev pub invariant-loop-k : goal.invariant-loop-k
 invariant-loop-k l =
-    all (map (in_row (row_at l.line)) (settings_line l.s l.line)) ≡ all (map (in_row (row_at l.line)) (drop l.k (settings_line l.s l.line)))
+    all (map (in_row (row_of l.row)) (settings_line l.s l.line)) ≡ all (map (in_row (row_of l.row)) (drop l.k (settings_line l.s l.line)))
