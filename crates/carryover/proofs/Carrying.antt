@@ -134,12 +134,16 @@ round-trips =
 -- a refused call, by its number
 kept : (a : CarryAnswer) (image target : List ℕ) → 0 < carry_number a → carried_into a image target ≡ target
 kept (Ok done) image target h = absurd (omega arith)
-kept (Err why) image target h = refl
+kept (Err CarryRefusal.SourceLength) image target h = refl
+kept (Err CarryRefusal.AddedBytes) image target h = refl
+kept (Err CarryRefusal.TargetLength) image target h = refl
 
 -- the bytes behind the image, refused or not
 rest-kept : (a : CarryAnswer) (k : ℕ) (image target : List ℕ) → (carry_number a ≡ 0 → length image ≡ k) → drop k (carried_into a image target) ≡ drop k target
 rest-kept (Ok done) k image target long = rest_in (Ok done) image target k refl (long refl)
-rest-kept (Err why) k image target long = refl
+rest-kept (Err CarryRefusal.SourceLength) k image target long = refl
+rest-kept (Err CarryRefusal.AddedBytes) k image target long = refl
+rest-kept (Err CarryRefusal.TargetLength) k image target long = refl
 
 pub refused-rightly : CarryRefusedRightly our_forward our_back
 unfolding our_forward our_back forward_into back_into

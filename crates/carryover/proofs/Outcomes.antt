@@ -9,11 +9,12 @@ use native.Mathlib.Omega.{arith}
 use lib.Dec.{eqb, leb}
 use lib.ListN.{length, drop}
 use borrow.Author.Tests.{eqb-true, leb-true}
-use Rattle.std.specs.Prelude.{Ok}
+use Rattle.std.specs.Prelude.{Ok, Err}
 use Rattle.rules.specs.Images.{image_length}
 use Rattle.causes.specs.FirstCause.{cause, first}
 use Rattle.buffers.specs.Written.{written}
 use Rattle.oldimages.specs.OldImages.{old_length, has_added}
+use Rattle.carryover.specs.declared.CarryRefusal.{CarryRefusal}
 use Rattle.carryover.specs.CarryOver.{CarryAnswer, carry_number, carry_answer, forward_answer, back_answer, carried_into, forward_causes, back_causes}
 
 -- ---- the target
@@ -27,6 +28,12 @@ front image target = rw zero-add
 pub promised : (answer a : CarryAnswer) (image target after : List ℕ) → a ≡ answer → after ≡ carried_into a image target
     → (a ≡ answer) × (after ≡ carried_into answer image target)
 promised answer a image target after e left = (e, left ∙ ap (λ (k : CarryAnswer). carried_into k image target) e)
+
+-- a refusal, whichever, leaves the target
+pub stays : (why : CarryRefusal) (image target : List ℕ) → target ≡ carried_into (Err why) image target
+stays CarryRefusal.SourceLength image target = refl
+stays CarryRefusal.AddedBytes image target = refl
+stays CarryRefusal.TargetLength image target = refl
 
 -- ---- the tests
 

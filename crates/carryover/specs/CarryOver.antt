@@ -48,7 +48,9 @@ back_answer source target = carry_answer (eqb (length source) image_length) (has
 -- the image at its front, and the bytes behind it as they were; spec 11.4: a refused call leaves all of it
 abbrev pub carried_into : CarryAnswer → List ℕ → List ℕ → List ℕ
 carried_into (Ok done) image target = image ++ drop (length image) target
-carried_into (Err why) image target = target
+carried_into (Err CarryRefusal.SourceLength) image target = target
+carried_into (Err CarryRefusal.AddedBytes) image target = target
+carried_into (Err CarryRefusal.TargetLength) image target = target
 
 unfoldable pub forward_into : List ℕ → List ℕ → List ℕ
 forward_into source target = carried_into (forward_answer source target) (carried_forward source) target

@@ -12,6 +12,7 @@ use mir.Syntax.{w64}
 use mir.Val.{Fits}
 use Rattle.basics.proofs.Digits.{last-only}
 use Rattle.rules.specs.Text.{digits_before, decimal}
+use Rattle.buffers.specs.Written.{Wrote}
 use Rattle.buffers.specs.Digits.{digits_in}
 
 -- 20 digits write every number of 64 bits
@@ -102,3 +103,8 @@ digits-are k n small lo hi = decimal-is (suc k) n small (digit-count k n small l
 
 pub digit-is : (n : ℕ) → n < 10 → decimal n ≡ digits_in 10 48 1 n
 digit-is n h = decimal-is 1 n (omega arith) (one-length n h)
+
+-- two digits of a number that is n, between 10 and 100: whether it is n is asked by itself, so that another number is refused as another number
+pub two-written : (d d' : List ℕ) (at r m n : ℕ) → Wrote d at d' r (digits_in 10 48 2 m) → m ≡ n → n < 10 ^ 20 → 10 ≤ n → n < 100
+    → Wrote d at d' r (decimal n)
+two-written d d' at r m n wrote same small lo hi = rw (digits-are 1 n small lo hi, ← same) wrote

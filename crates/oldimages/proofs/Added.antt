@@ -1,13 +1,16 @@
--- The test on what stands behind the bytes of an old image: it passes exactly where that is what carrying forward appends.
+-- The test on what stands behind the bytes of an old image: it passes exactly where that is what carrying forward appends, and looks at four bytes.
 -- Assumes nothing.
 use mathlib.Core.Path.{◌≡◌, refl, sym, ap, ap₂, ◌∙◌}
-use mathlib.Core.Bool.{Bool, true, false, true≢false, ◌&&◌}
+use mathlib.Core.Bool.{Bool, true, false, true≢false, ◌&&◌, and-true}
 use mathlib.Core.List.{List, [], ◌∷◌}
-use Prim.Native.Nat.{ℕ}
+use Prim.Native.Nat.{ℕ, suc, ◌≤◌, ◌<◌}
 use native.Mathlib.Omega.{arith}
 use borrow.Author.Tests.{eqb-true, eq-eqb}
-use lib.Dec.{eqb}
-use lib.ListN.{length, drop, length-drop}
+use lib.Dec.{eqb, lit<}
+use lib.ListN.{length, drop, get_or, length-drop, drop_of_length-le}
+use lib.Seq.{drop-cons}
+use Rattle.rules.specs.Droop.{no_side}
+use Rattle.rules.specs.Service.{recovery_top}
 use Rattle.rules.specs.Images.{image_length}
 use Rattle.oldimages.specs.OldImages.{old_length, added_bytes, same_bytes, has_added}
 
@@ -45,6 +48,19 @@ module _ (source : List ℕ) where
       by : (t : Bool) → has_added source ≡ t → t ≡ false
       by true e = absurd (other (added_true e))
       by false e = refl
+
+  -- ---- of an image: byte by byte
+
+  last-four : length source ≡ image_length → drop old_length source ≡ get_or source 45 0 ∷ get_or source 46 0 ∷ get_or source 47 0 ∷ get_or source 48 0 ∷ []
+  last-four long =
+      let byte : (j : ℕ) → j < image_length → drop j source ≡ get_or source j 0 ∷ drop (suc j) source = λ j h. drop-cons source j 0 (omega (arith, h, long)) in
+      let all : length source ≤ image_length = omega (arith, long) in
+      rw (byte 45 (lit< tt), byte 46 (lit< tt), byte 47 (lit< tt), byte 48 (lit< tt), drop_of_length-le source all)
+
+  pub by_bytes : length source ≡ image_length
+      → has_added source
+      ≡ (eqb (get_or source 45 0) recovery_top && (eqb (get_or source 46 0) no_side && (eqb (get_or source 47 0) 0 && eqb (get_or source 48 0) 0)))
+  by_bytes long = rw (last-four long, and-true)
 
   -- another length
   pub not-added : ¬ (length source ≡ image_length) → has_added source ≡ false

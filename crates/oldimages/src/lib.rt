@@ -17,7 +17,19 @@ pub const ADDED: [u8; 4] = [RECOVERY_TOP, 0, 0, 0];
 pub fn has_added(source: &[u8]) -> bool
     ensures { result ≡ has_added source.now }
 {
-    source.len() == IMAGE_LENGTH && source[OLD_LENGTH..] == ADDED[..]
+    if source.len() != IMAGE_LENGTH {
+        return false;
+    }
+    if source[OLD_LENGTH] != RECOVERY_TOP {
+        return false;
+    }
+    if source[46] != 0 {
+        return false;
+    }
+    if source[47] != 0 {
+        return false;
+    }
+    source[48] == 0
 }
 
 // The bytes that both images have, at the front of the target.

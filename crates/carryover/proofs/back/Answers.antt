@@ -11,7 +11,7 @@ use Rattle.std.proofs.lemmas.Result.{err_from_is_err_and}
 use Rattle.rules.specs.Images.{image_length}
 use Rattle.oldimages.specs.OldImages.{old_length, has_added}
 use Rattle.carryover.specs.CarryOver.{CarryAnswer, carried_back, carry_answer, back_answer, back_into}
-use Rattle.carryover.proofs.Outcomes.{front, promised}
+use Rattle.carryover.proofs.Outcomes.{front, promised, stays}
 use Rattle.carryover.proofs.back.Goals as goal
 
 -- the answer, with the second test as the code found it
@@ -27,7 +27,7 @@ returns-in_err-checked-clause-value c =
     let target = c.args.target.now in
     let told = answered source target c.has_added.result c.checked.result c.has_added.ensures c.checked.ensures in
     let p = err_from_is_err_and c.from_residual.result c.from_residual.ensures.1 in
-    promised (back_answer source target) _ (carried_back source) target target (p.1 ∙ ap Err p.2 ∙ sym c.in_err-checked.was ∙ told) (rw p.1 refl)
+    promised (back_answer source target) _ (carried_back source) target target (p.1 ∙ ap Err p.2 ∙ sym c.in_err-checked.was ∙ told) (rw p.1 (stays _ (carried_back source) target))
 
 pub returns-clause-value : goal.returns-clause-value
 unfolding back_into

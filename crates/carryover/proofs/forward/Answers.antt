@@ -15,7 +15,7 @@ use Rattle.buffers.proofs.Writing.{copy-all, write_then}
 use Rattle.rules.specs.Images.{image_length}
 use Rattle.oldimages.specs.OldImages.{old_length, added_bytes}
 use Rattle.carryover.specs.CarryOver.{carried_forward, forward_answer, forward_into}
-use Rattle.carryover.proofs.Outcomes.{front, promised, clear}
+use Rattle.carryover.proofs.Outcomes.{front, promised, stays, clear}
 use Rattle.carryover.proofs.forward.Goals as goal
 
 -- the old bytes, and then those behind them
@@ -34,7 +34,7 @@ returns-in_err-checked-clause-value c =
     let target = c.args.target.now in
     let p = err_from_is_err_and c.from_residual.result c.from_residual.ensures.1 in
     promised (forward_answer source target) _ (carried_forward source) target target
-    (p.1 ∙ ap Err p.2 ∙ sym c.in_err-checked.was ∙ c.checked.ensures) (rw p.1 refl)
+    (p.1 ∙ ap Err p.2 ∙ sym c.in_err-checked.was ∙ c.checked.ensures) (rw p.1 (stays _ (carried_forward source) target))
 
 -- where nothing is refused the lengths are right
 long : (source target : List ℕ) → forward_answer source target ≡ Ok tt → (length source ≡ old_length) × (image_length ≤ length target)

@@ -2,7 +2,7 @@
 -- Assumes nothing.
 use mathlib.Core.Path.{sym}
 use native.Mathlib.Omega.{arith}
-use Rattle.decimals.proofs.Decimals.{below, decimal-is, digit-is, digits-are}
+use Rattle.decimals.proofs.Decimals.{below, decimal-is, digit-is, digits-are, two-written}
 use Rattle.decimals.proofs.put_decimal.Goals as goal
 
 pub returns-then-n-lt10-clause-wrote : goal.returns-then-n-lt10-clause-wrote
@@ -11,7 +11,7 @@ returns-then-n-lt10-clause-wrote c =
 
 pub returns-then-n-lt100-clause-wrote : goal.returns-then-n-lt100-clause-wrote
 returns-then-n-lt100-clause-wrote c =
-    rw (digits-are 1 c.args.n (below c.ranges.n) (omega arith) (omega arith)) c.put_digits-then-n-lt100.ensures.wrote
+    two-written _ _ _ _ _ c.args.n c.put_digits-then-n-lt100.ensures.wrote (omega arith) (below c.ranges.n) (omega arith) (omega arith)
 
 pub returns-then-n-lt1000-clause-wrote : goal.returns-then-n-lt1000-clause-wrote
 returns-then-n-lt1000-clause-wrote c =

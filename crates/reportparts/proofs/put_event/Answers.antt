@@ -1,5 +1,6 @@
 -- `reportparts::put_event` meets its contract: what is written where there is no event is what the numbers make.
 -- Assumes nothing.
+use native.Mathlib.Omega.{arith}
 use Rattle.buffers.proofs.Writing.{and_then}
 use Rattle.reportparts.specs.Parts.{event_numbers}
 use Rattle.reportparts.proofs.Parts.{calm-event}
@@ -7,7 +8,7 @@ use Rattle.reportparts.proofs.put_event.Goals as goal
 
 pub returns-then-held-eq0-clause-wrote : goal.returns-then-held-eq0-clause-wrote
 returns-then-held-eq0-clause-wrote c =
-    rw (calm-event c.args.side c.args.held c.if-side-eq0.true c.if-held-eq0.true) c.put.ensures
+    rw (calm-event c.args.side c.args.held (omega arith) (omega arith)) c.put.ensures
 
 pub returns-clause-wrote : goal.returns-clause-wrote
 unfolding event_numbers

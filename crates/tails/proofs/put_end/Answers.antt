@@ -23,12 +23,12 @@ pub returns-then-q : goal.returns-then-q
 returns-then-q c = λ l e.
     let begun : (c.args.q.overlong || ltb 0 (length l)) ≡ true = elim c.then-q.branch [
       | then-q-via-then-q w ↦ rw w.if-q.true refl
-      | then-q-via-else-q+then-n-gt0 w ↦ rw (w.if-q.false, e, lt-ltb 0 c.args.n w.if-n-gt0.true) refl
+      | then-q-via-else-q+then-n-gt0 w ↦ rw (w.if-q.false, lt-ltb 0 (length l) (omega (arith, e, w.if-n-gt0.true))) refl
     ] in
     rw (← end-sample c.args.q l c.if-stage-eq0.false (omega arith) begun, ← c.refusal_number-then-q.ensures) c.put_refused-then-q.ensures
 
 pub returns : goal.returns
 returns c = λ l e. rw
     (← end_none c.args.q l c.if-stage-eq0.false (omega arith)
-    (rw (c.if-q.false, e, le-ltb 0 c.args.n c.if-n-gt0.false) refl))
+    (rw (c.if-q.false, le-ltb 0 (length l) (omega (arith, e, c.if-n-gt0.false))) refl))
     (wrote_none c.args.out.now c.args.at (omega arith))
