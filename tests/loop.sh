@@ -63,6 +63,7 @@ expect 1 'start()' $main $loop
 
 # The input buffer is written by the read, and by `to_front` alone.
 expect 1 'buf.copy_within(' $loop $states
+expect 0 'buf[i] =' $loop $states
 expect 0 'buf[have' $loop
 expect 2 'to_front(buf' $loop $states
 expect 0 'buf[' $main
